@@ -1,0 +1,1 @@
+// No function: the crate holds what the rules mean, and the theorems about it.

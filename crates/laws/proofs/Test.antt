@@ -1,5 +1,5 @@
 -- Laws of tests. Assumes nothing.
-use mathlib.Core.Path.{_≡_, refl}
+use mathlib.Core.Path.{_≡_, refl, ap₂}
 use mathlib.Core.Bool.{Bool, true, false, not, _&&_}
 use mathlib.Core.Logic.{_⊎_, inl, inr}
 use Prim.Native.Nat.{ℕ, zero, suc, _≤_, _<_}
@@ -121,3 +121,9 @@ none-all p n h = elim (either (none p n)) [ inl y ↦ y | inr y ↦ let (i, l, t
 
 pub none-each : (p : ℕ → Bool) (n i : ℕ) → T (none p n) → i < n → T (not (p i))
 none-each p n i t l = not-T (p i) (λ y. T-not (none p n) (none-not p n i l y) t)
+
+-- tests that agree below n
+pub none-same : (p r : ℕ → Bool) (n : ℕ) → ((i : ℕ) → i < n → p i ≡ r i) → none p n ≡ none r n
+unfolding none
+none-same p r zero e = refl
+none-same p r (suc n) e = ap₂ (λ a b. not a && b) (e n (omega arith)) (none-same p r n (λ i l. e i (omega arith)))

@@ -1,0 +1,68 @@
+// The format's numbers: each kind of field by its tag, the length of its payload, and the bytes of the whole field;
+// how many fields a table has, and where their payloads lie.
+ghost use mathlib.Core.Path.{_≡_};
+ghost use Prim.Native.Nat.{_^_, _<_};
+ghost use Rattle.record.specs.Format.{recordLength};
+ghost use Rattle.record.specs.Field.{fieldCount, payloadOffset, payloadLength};
+use table::Table;
+
+pub(crate) const HEADER_TAG: u8 = 1;
+
+pub(crate) const LOCATION_TAG: u8 = 2;
+
+pub(crate) const TASK_TAG: u8 = 3;
+
+pub(crate) const HEADER_LENGTH: u16 = 4;
+
+pub(crate) const LOCATION_LENGTH: u16 = 9;
+
+pub(crate) const TASK_LENGTH: u16 = 7;
+
+// Where the length begins in its field: after the tag.
+pub(crate) const LENGTH: usize = 1;
+
+// Where a payload begins in its field: after tag and length.
+pub(crate) const PAYLOAD: usize = 3;
+
+pub(crate) const HEADER_FIELD: usize = 7;
+
+pub(crate) const LOCATION_FIELD: usize = 12;
+
+pub(crate) const TASK_FIELD: usize = 10;
+
+// The header is field 0, location v is field v + HEADERS; the tasks come after the locations.
+const HEADERS: usize = 1;
+
+pub(crate) fn field_count(table: Table) -> usize
+    requires { ⌜ recordLength table < 2 ^ 64 ⌝ }
+    ensures { λ r. ⌜ r ≡ fieldCount table ⌝ }
+{
+    HEADERS + table.locations + table.tasks
+}
+
+pub(crate) fn payload_offset(table: Table, k: usize) -> usize
+    requires { ⌜ recordLength table < 2 ^ 64 ⌝ }
+    requires { ⌜ k < fieldCount table ⌝ }
+    ensures { λ r. ⌜ r ≡ payloadOffset table k ⌝ }
+{
+    let locations = table.locations;
+    if k == 0 {
+        return PAYLOAD;
+    }
+    if k <= locations {
+        return HEADER_FIELD + LOCATION_FIELD * (k - HEADERS) + PAYLOAD;
+    }
+    HEADER_FIELD + LOCATION_FIELD * locations + TASK_FIELD * (k - (locations + HEADERS)) + PAYLOAD
+}
+
+pub(crate) fn payload_length(table: Table, k: usize) -> usize
+    ensures { λ r. ⌜ r ≡ payloadLength table k ⌝ }
+{
+    if k == 0 {
+        return HEADER_FIELD - PAYLOAD;
+    }
+    if k <= table.locations {
+        return LOCATION_FIELD - PAYLOAD;
+    }
+    TASK_FIELD - PAYLOAD
+}

@@ -1,0 +1,80 @@
+// The record of a table as bytes: reading, writing, and the question for one field (docs/RULES.md, The record).
+mod bytes; // bytes.rt: numbers of two bytes
+mod format; // format.rt: tags and lengths
+mod front; // front.rt: the fields from the front
+mod payload; // payload.rt: what a payload holds
+mod refusals; // refusals.rt: the tests at one field
+mod writer; // writer.rt: a table as its record
+
+pub use writer::write;
+ghost use mathlib.Core.Path.{_≡_};
+ghost use Prim.Native.Nat.{_+_};
+ghost use Rattle.record.specs.Reading.{readOf};
+ghost use Rattle.record.specs.Field.{fieldRefusal, partOf, partOffset};
+use table::Refusal;
+use table::Table;
+
+#[repr(C)]
+pub struct ReadAnswer {
+    pub refusal: Refusal,
+    pub table: Table,
+}
+
+#[repr(C)]
+pub struct WriteAnswer {
+    pub refusal: Refusal,
+    pub length: usize,
+}
+
+// Reads a record: its fields from the front, then the judge of the table that they hold.
+pub fn read(bytes: &[u8]) -> ReadAnswer
+    ensures { λ r. ⌜ r ≡ readOf (now (bytes .entry)) ⌝ }
+{
+    let answer = front::fields(bytes);
+    if answer.refusal.number != Refusal::NONE {
+        return answer;
+    }
+    let refusal = table::judge(answer.table);
+    if refusal.number != Refusal::NONE {
+        return front::refused(refusal.number, refusal.place);
+    }
+    answer
+}
+
+// The payload of field k, as a part of the record; an empty part where the question is refused.
+pub fn field<'a>(bytes: &'a [u8], k: usize) -> &'a [u8]
+    ensures { λ r. ⌜ now r ≡ partOf (now (bytes .entry)) k ⌝ }
+    ensures { λ r. ⌜ r .ptr ≡ (bytes .entry .ptr .0, partOffset (now (bytes .entry)) k + bytes .entry .ptr .1) ⌝ }
+{
+    let answer = read(bytes);
+    if answer.refusal.number != Refusal::NONE {
+        return &bytes[0..0];
+    }
+    if format::field_count(answer.table) <= k {
+        return &bytes[0..0];
+    }
+    let from = format::payload_offset(answer.table, k);
+    let end = from + format::payload_length(answer.table, k);
+    &bytes[from..end]
+}
+
+// Why the question for field k is refused, and where; nothing where `field` gives the payload.
+pub fn field_refusal(bytes: &[u8], k: usize) -> Refusal
+    ensures { λ r. ⌜ r ≡ fieldRefusal (now (bytes .entry)) k ⌝ }
+{
+    let answer = read(bytes);
+    let refusal = answer.refusal;
+    if refusal.number != Refusal::NONE {
+        return refusal;
+    }
+    if format::field_count(answer.table) <= k {
+        return Refusal {
+            number: Refusal::AMOUNT,
+            place: 0,
+        };
+    }
+    Refusal {
+        number: Refusal::NONE,
+        place: 0,
+    }
+}

@@ -1,138 +1,123 @@
-// Asks the questions of data/records and prints a line for each: its name, then `accepted`, with ` written` where writing gives the
-// record's own bytes or with the payload's bytes, or `refused` with number and place (docs/RULES.md, Refusals).
+// Asks the questions of the files in data/ and prints a line for each: its name, then the answer in the words of docs/RULES.md, or
+// `refused` with number and place.
 //
-// data/records has for each question: length of its name (1 byte), name, kind (1), number (2), length of the record (2), record.
+// A file has for each question: length of its name (1 byte), kind (1), two numbers (4 each), lengths of the steps (2) and of the
+// record (2); then name, steps and record.
 ghost use Prim.Native.Nat.{_+_, _<_, _≤_};
-ghost use mathlib.Core.Path.{_≡_};
 ghost use lib.ListN.{length};
-use libc::STDOUT_FILENO;
 use table::Refusal;
 use table::Table;
+use words::text;
 
-// The bytes lent to the writer, and what they hold before.
-const LENT: usize = 2048;
+mod records;
+mod refusals;
+mod runs;
+mod supplies;
+mod verdicts;
+mod words;
 
-const FILLED: u8 = 7;
+// The bytes of a question before its name.
+const HEAD: usize = 14;
 
-fn text(s: &[u8]) {
-    io::write_all(STDOUT_FILENO, s);
+// What is asked, with the two numbers that the question takes.
+struct Asked {
+    kind: u8,
+    first: u32,
+    second: u32,
 }
 
-fn number(n: usize) {
-    io::print_decimal(STDOUT_FILENO, n as u64);
+// Where the parts of a question lie: name, steps and record, up to the end.
+struct Parts {
+    name: usize,
+    steps: usize,
+    bytes: usize,
+    end: usize,
 }
 
-fn wide(byte: u8) -> usize
-    ensures { λ r. ⌜ (r ≡ byte) × (r < 256) ⌝ }
+// All parts are empty where the file is cut.
+fn parts_at(s: &[u8], at: usize) -> Parts
+    requires { ⌜ at < length (now s) ⌝ }
+    ensures { λ r. ⌜ (at < r .end) × (r .name ≤ r .steps) × (r .steps ≤ r .bytes) × (r .bytes ≤ r .end) × (r .end ≤ length (now (s .entry))) ⌝ }
 {
-    byte as usize
+    let n = s.len();
+    let cut = Parts {
+        name: n,
+        steps: n,
+        bytes: n,
+        end: n,
+    };
+    let name = at + HEAD;
+    if n < name {
+        return cut;
+    }
+    let steps = name + words::wide(s[at]);
+    let bytes = steps + words::number16(s, at + 10);
+    let end = bytes + words::number16(s, at + 12);
+    if n < end {
+        return cut;
+    }
+    Parts {
+        name: name,
+        steps: steps,
+        bytes: bytes,
+        end: end,
+    }
 }
 
-// The number of two bytes at `at`.
-fn number16(s: &[u8], at: usize) -> usize
-    requires { ⌜ at + 2 ≤ length (now s) ⌝ }
-    ensures { λ r. ⌜ r < 65536 ⌝ }
+// All zeros where the file is cut.
+fn asked_at(s: &[u8], at: usize) -> Asked
+    requires { ⌜ at < length (now s) ⌝ }
 {
-    wide(s[at]) * 256 + wide(s[at + 1])
-}
-
-fn refused(refusal: Refusal) {
-    text(b" refused ");
-    number(wide(refusal.number));
-    text(b" ");
-    number(refusal.place);
-}
-
-fn item(byte: u8) {
-    text(b" ");
-    number(wide(byte));
-}
-
-fn payload(s: &[u8]) {
-    let mut i: usize = 0;
-    while i < s.len() {
-        item(s[i]);
-        i += 1;
+    if s.len() < at + HEAD {
+        return Asked {
+            kind: 0,
+            first: 0,
+            second: 0,
+        };
+    }
+    Asked {
+        kind: s[at + 1],
+        first: words::number32(s, at + 2),
+        second: words::number32(s, at + 6),
     }
 }
 
-// The payload of field k; the part of a refused question is empty.
-fn field(s: &[u8], k: usize) {
-    let refusal = record::field_refusal(s, k);
-    let part = record::field(s, k);
-    if refusal.number == Refusal::NONE {
-        text(b" accepted");
-    } else {
-        refused(refusal);
+// A question about a table that was read from the record s; the letters are those of rust/cases/src/question.rs.
+fn ask_table(table: Table, asked: Asked, steps: &[u8], s: &[u8]) {
+    let first = asked.first;
+    let second = asked.second;
+    let kind = asked.kind;
+    match kind {
+        b'r' => records::lend(s, table, first as usize),
+        b'l' => records::with_locations(s, table, first as usize),
+        b't' => records::with_tasks(s, table, first as usize),
+        b'L' => words::answer(bounds::least(table, first, second)),
+        b'M' => words::answer(bounds::most(table, first, second)),
+        b'C' => supplies::cycle(table, first),
+        b'F' => supplies::fill(table, first, second as usize, 0),
+        b'E' => supplies::fill(table, first, second as usize, supplies::LATE),
+        b'D' => words::answer(verdict::demand(table, first, second)),
+        b'V' => verdicts::verdict(table, first),
+        b'W' => words::answer(verdict::wait(table, first, second)),
+        b'J' => refusals::all(table, first as usize, steps),
+        b'S' => runs::from_fresh(table, steps),
+        b'U' => runs::from_given(table, steps),
+        _ => {}
     }
-    payload(part);
 }
 
-// Has the writer put the record s to the front of `out`, and left the bytes past it as they were in `before`?
-fn is_written(s: &[u8], n: usize, out: &[u8], before: &[u8]) -> bool {
-    if out.len() < n {
-        return false;
-    }
-    if before.len() < n {
-        return false;
-    }
-    if !check::same(s, &out[0..n]) {
-        return false;
-    }
-    check::same(&out[n..], &before[n..])
-}
-
-fn write(s: &[u8], table: Table, out: &mut [u8], before: &[u8]) {
-    let answer = record::write(table, out);
-    let refusal = answer.refusal;
-    if refusal.number != Refusal::NONE {
-        refused(refusal);
+fn ask(asked: Asked, steps: &[u8], s: &[u8]) {
+    if asked.kind == b'f' {
+        records::field(s, asked.first as usize);
         return;
     }
-    text(b" accepted");
-    if is_written(s, answer.length, out, before) {
-        text(b" written");
-    }
-}
-
-// Writes into the first `room` bytes of those lent.
-fn lend(s: &[u8], table: Table, room: usize) {
-    let mut out = [FILLED; LENT];
-    let before = [FILLED; LENT];
-    if LENT < room {
-        return;
-    }
-    write(s, table, &mut out[0..room], &before[0..room]);
-}
-
-// Reads the record s and writes its table, with another number of locations or tasks where that is asked.
-fn copy(s: &[u8], kind: u8, n: usize) {
     let answer = record::read(s);
     let refusal = answer.refusal;
     if refusal.number != Refusal::NONE {
-        refused(refusal);
+        words::refused(refusal);
         return;
     }
-    let mut table = answer.table;
-    if kind == b'l' {
-        table.locations = n;
-        lend(s, table, LENT);
-    } else if kind == b't' {
-        table.tasks = n;
-        lend(s, table, LENT);
-    } else {
-        lend(s, table, n);
-    }
-}
-
-fn ask(name: &[u8], kind: u8, n: usize, s: &[u8]) {
-    text(name);
-    if kind == b'f' {
-        field(s, n);
-    } else {
-        copy(s, kind, n);
-    }
-    text(b"\n");
+    ask_table(answer.table, asked, steps, s);
 }
 
 // Asks the question at `at`, and answers where the next one begins.
@@ -140,24 +125,14 @@ fn question(s: &[u8], at: usize) -> usize
     requires { ⌜ at < length (now s) ⌝ }
     ensures { λ r. ⌜ at < r ⌝ }
 {
-    let name = at + 1;
-    let kind = name + wide(s[at]);
-    let from = kind + 5;
-    if s.len() < from {
-        text(b"cut\n");
-        return s.len();
-    }
-    let end = from + number16(s, kind + 3);
-    if s.len() < end {
-        text(b"cut\n");
-        return s.len();
-    }
-    ask(
-        &s[name..kind],
-        s[kind],
-        number16(s, kind + 1),
-        &s[from..end],
-    );
+    let parts = parts_at(s, at);
+    let name = parts.name;
+    let steps = parts.steps;
+    let bytes = parts.bytes;
+    let end = parts.end;
+    text(&s[name..steps]);
+    ask(asked_at(s, at), &s[steps..bytes], &s[bytes..end]);
+    text(b"\n");
     end
 }
 
@@ -168,8 +143,7 @@ fn questions(s: &[u8]) {
     }
 }
 
-fn main() {
-    let path = b"records";
+fn file(path: &[u8]) {
     let fd = os::open_read(path);
     if fd < 0 {
         os::fail(path);
@@ -179,4 +153,11 @@ fn main() {
     let n = io::read_full(fd, &mut space);
     libc::close(fd);
     questions(&space[..n]);
+}
+
+fn main() {
+    file(b"records");
+    file(b"bounds");
+    file(b"verdicts");
+    file(b"steps");
 }

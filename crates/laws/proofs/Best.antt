@@ -1,11 +1,12 @@
 -- The best is one that passes with the smallest key, and of those the lowest. Assumes nothing.
-use mathlib.Core.Path.{_≡_, sym, ap}
+use mathlib.Core.Path.{_≡_, refl, sym, ap, ap₂, _∙_}
 use mathlib.Core.Bool.{Bool, _&&_}
 use mathlib.Core.Logic.{_⊎_, inl, inr}
-use Prim.Native.Nat.{ℕ, zero, suc, _≤_, _<_}
+use Prim.Native.Nat.{ℕ, zero, suc, _+_, _≤_, _<_}
 use native.Mathlib.Omega.{arith}
+use native.Mathlib.Numerals.{add-one}
 use lib.Dec.{T-not, ltb, ltb→lt, nltb→le}
-use Rattle.laws.specs.Found.{Found, nobody, at, better, best, IsBest}
+use Rattle.laws.specs.Found.{Found, nobody, at, found, better, best, IsBest}
 use Rattle.laws.proofs.Test.{le-or-lt, last-or-before, and-left, and-right, and-fails-right}
 use Rattle.laws.proofs.First.{found-case}
 
@@ -45,3 +46,22 @@ module _ (p : ℕ → Bool) (key : ℕ → ℕ) where
   unfolding best IsBest
   best-is zero = λ j l. absurd (omega arith)
   best-is (suc n) = one-more n (best p key n) (best-is n)
+
+  pub best-none : best p key 0 ≡ nobody
+  unfolding best
+  best-none = refl
+
+  pub best-more : (n : ℕ) → best p key (n + 1) ≡ better p key n (best p key n)
+  unfolding best
+  best-more n = rw add-one
+
+-- tests and keys that agree below n
+pub best-same : (p r : ℕ → Bool) (key other : ℕ → ℕ) (n : ℕ) → ((i : ℕ) → i < n → p i ≡ r i) → ((i : ℕ) → i < n → key i ≡ other i) → best p key n ≡ best r other n
+unfolding best IsBest
+best-same p r key other zero e f = refl
+best-same p r key other (suc n) e f =
+    go (best p key n) (best-is p key n) ∙ ap (better r other n) (best-same p r key other n (λ i l. e i (omega arith)) (λ i l. f i (omega arith)))
+  where
+    go : (o : Found) → IsBest p key n o → better p key n o ≡ better r other n o
+    go nobody h = ap (λ b. found b n nobody) (e n (omega arith))
+    go (at i) h = ap₂ (λ b c. found (b && c) n (at i)) (e n (omega arith)) (ap₂ ltb (f n (omega arith)) (f i (omega (arith, h .0))))

@@ -5,3 +5,5 @@ pub mod Minimum
 pub mod First
 pub mod Best
 pub mod Climb
+pub mod Up
+pub mod Bits

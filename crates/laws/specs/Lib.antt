@@ -4,3 +4,5 @@ pub mod Sum
 pub mod Minimum
 pub mod Found
 pub mod Climb
+pub mod Up
+pub mod Bits

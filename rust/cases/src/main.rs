@@ -1,4 +1,4 @@
-//! `cases DIR` makes data/records and stdout in DIR, which is crates/cases.
+//! `cases DIR` makes the files of data/ and stdout in DIR, which is crates/cases.
 
 use std::path::Path;
 use std::process::ExitCode;
@@ -22,5 +22,8 @@ fn make(folder: &Path) -> Result<(), String> {
         std::fs::write(folder.join(name), bytes).map_err(|error| format!("{name}: {error}"))
     };
     put("stdout", cases::answers()?.as_bytes())?;
-    put("data/records", &cases::records())
+    for (file, cases) in cases::files() {
+        put(&format!("data/{file}"), &cases::bytes(&cases))?;
+    }
+    Ok(())
 }

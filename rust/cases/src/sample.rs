@@ -74,6 +74,33 @@ pub fn b() -> Sample {
     Sample::new(1, 5, &locations, &[])
 }
 
+/// tables/figure4.table.
+pub fn figure4() -> Sample {
+    let mut locations = [
+        location(0, 2, 4, FULL),
+        location(0, 3, 3, (0, 99)),
+        location(1, 1, 5, (0, 99)),
+        location(1, 1, 2, (100, 65_535)),
+        location(0, 1, 2, (100, 65_535)),
+        location(4, 3, 6, FULL),
+        location(3, 4, 3, FULL),
+    ];
+    locations[1].variable = 1;
+    Sample::new(4, 12, &locations, &[])
+}
+
+/// One queue, whose one tick in 1,024 is the second or the last: the longest wait of all.
+pub fn slowest() -> Sample {
+    let locations = [
+        location(0, 0, 1, FULL),
+        location(0, 1, 1, (0, 9)),
+        location(0, 0, 1_022, (10, 65_535)),
+        location(1, 0, 1_022, FULL),
+        location(2, 1, 1, FULL),
+    ];
+    Sample::new(1, 1_024, &locations, &[])
+}
+
 /// One location, no task: the shortest record.
 pub fn one(period: u16) -> Sample {
     Sample::new(1, period, &[location(0, 1, period, FULL)], &[])

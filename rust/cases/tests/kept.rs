@@ -2,24 +2,47 @@
 
 use std::path::Path;
 
+use cases::sample::{a, b, figure4};
+
+/// The buffer of the program under test, which reads each file whole.
+const BUFFER: usize = 65_536;
+
+/// A file by its path from the top folder.
 fn kept(name: &str) -> Vec<u8> {
-    let file = Path::new(env!("CARGO_MANIFEST_DIR")).join("../../crates/cases").join(name);
+    let file = Path::new(env!("CARGO_MANIFEST_DIR")).join("../..").join(name);
     std::fs::read(&file).unwrap_or_else(|error| panic!("{}: {error}", file.display()))
 }
 
 #[test]
-fn the_records_are_those_made_here() {
-    assert!(kept("data/records") == cases::records(), "make crates/cases/data/records again");
+fn the_files_are_those_made_here() {
+    for (file, cases) in cases::files() {
+        assert!(kept(&format!("crates/cases/data/{file}")) == cases::bytes(&cases), "make data/{file} again");
+    }
+}
+
+#[test]
+fn every_file_fits_the_buffer() {
+    for (file, cases) in cases::files() {
+        assert!(cases::bytes(&cases).len() <= BUFFER, "data/{file} is too long");
+    }
 }
 
 #[test]
 fn the_answers_are_the_listers() {
-    assert_eq!(String::from_utf8(kept("stdout")).unwrap(), cases::answers().unwrap());
+    assert_eq!(String::from_utf8(kept("crates/cases/stdout")).unwrap(), cases::answers().unwrap());
+}
+
+#[test]
+fn the_samples_are_those_of_tables() {
+    assert_eq!(kept("tables/a.table"), a().bytes());
+    assert_eq!(kept("tables/b.table"), b().bytes());
+    assert_eq!(kept("tables/figure4.table"), figure4().bytes());
 }
 
 #[test]
 fn every_name_is_used_once() {
-    let mut names: Vec<String> = cases::list::all().into_iter().map(|case| case.name).collect();
+    let mut names: Vec<String> =
+        cases::files().into_iter().flat_map(|(_, cases)| cases).map(|case| case.name).collect();
     let count = names.len();
     names.sort();
     names.dedup();

@@ -1,9 +1,9 @@
--- `cases::payload` is safe and ends: the index stays within the slice. Assumes nothing.
+-- `cases::supplies::entries` is safe and ends: the index stays within the slice. Assumes nothing.
 use Prim.Native.Nat.{_-_, _≤_}
 use lib.ListN.{length}
 use borrow.Author.Needs.{needs}
-use Rattle.cases.proofs.payload.Statement.{statement}
-use Rattle.cases.proofs.payload.Tie as tie
+use Rattle.cases.proofs.supplies.entries.Statement.{statement}
+use Rattle.cases.proofs.supplies.entries.Tie as tie
 
 abbrev Inv-loop : tie.InvT-loop
 Inv-loop s i₀ i = i ≤ length s
@@ -13,6 +13,9 @@ abbrev μ-loop : tie.MeasureT-loop
 
 loop-holds : tie.Need-loop-holds Inv-loop μ-loop
 loop-holds c = search needs
+
+mul-item : tie.Need-mul-item Inv-loop μ-loop
+mul-item c = search needs
 
 shared-slice-read-item : tie.Need-shared-slice-read-item Inv-loop μ-loop
 shared-slice-read-item c = search needs
@@ -32,13 +35,14 @@ loop-again c = search needs
 returns : tie.Need-returns Inv-loop μ-loop
 returns c = search needs
 
-pub payload-spec : {M : Type 1} → statement M
-payload-spec =
+pub entries-spec : {M : Type 1} → statement M
+entries-spec =
     tie.close
     (tie.spec
     Inv-loop
     μ-loop
     loop-holds
+    mul-item
     shared-slice-read-item
     item-requires
     add-i

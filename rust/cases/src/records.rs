@@ -1,8 +1,9 @@
-//! All cases, in the order of the numbers of refusal. Beside each stands what docs/RULES.md gives, worked out by hand.
+//! Cases of records, in the order of the numbers of refusal. Beside each stands what docs/RULES.md gives, worked out by hand.
 
 use lister::refusal::*;
 
-use crate::case::{Case, LENT, Outcome, Question};
+use crate::case::{Case, Outcome};
+use crate::question::{LENT, Question, decimals};
 use crate::sample::{FULL, Sample, a, b, chain, hex, location, longest, one, task};
 
 pub fn all() -> Vec<Case> {
@@ -362,7 +363,7 @@ fn fields() -> Vec<Case> {
     let asked = |name: &str, k: u16, record: &[u8], outcome: Outcome| {
         case(&format!("{name}-field-{k}"), Question::Field(k), record.to_vec(), outcome)
     };
-    let payload = |text: &str| Outcome::Payload(hex(text));
+    let payload = |text: &str| Outcome::Words(format!("accepted{}", decimals(&hex(text))));
     let (a, b, longest) = (a().bytes(), b().bytes(), longest().bytes());
     let gap = self::a().with(|s| s.locations[2].low = 101).bytes();
     vec![

@@ -1,0 +1,65 @@
+use mathlib.Core.Path.{sym, ap, _∙_}
+use native.Mathlib.Omega.{arith}
+use Rattle.table.specs.Columns.{entry}
+use borrow.Author.Tests.{eq-eqb, ne-eqb}
+use borrow.Author.Needs.{needs}
+use Rattle.bounds.proofs.corners.opens_at.Statement.{statement}
+use Rattle.bounds.proofs.corners.opens_at.Tie as tie
+use Rattle.bounds.proofs.corners.opens_at.Reads as reads
+use Rattle.bounds.proofs.corners.opens_at.Lts as lts
+use Rattle.table.proofs.paths.number.Reads as number-reads
+
+-- src/corners.rt:21:9
+returns : tie.Need-returns
+returns c = simp (eq-eqb _ _ (c .if1 .taken))
+
+-- src/corners.rt:23:8
+element-copy-out-if2 : tie.Need-element-copy-out-if2
+element-copy-out-if2 c = search needs
+
+-- src/corners.rt:24:9
+returns-2 : tie.Need-returns-2
+returns-2 c = simp (ne-eqb _ _ (c .before .before .if1 .left), eq-eqb _ _ (c .if2 .taken))
+
+-- src/corners.rt:26:32
+element-copy-out-number : tie.Need-element-copy-out-number
+element-copy-out-number c = search needs
+
+-- src/corners.rt:26:9
+number-requires : tie.Need-number-requires
+number-requires c κs = search needs
+
+-- src/corners.rt:27:8
+element-copy-out-if3 : tie.Need-element-copy-out-if3
+element-copy-out-if3 c =
+    let s = c .before .before .before .before .before in
+    omega (arith, s .pre .1 (s .args .v) (omega arith) (omega arith))
+
+-- src/corners.rt:28:9
+returns-3 : tie.Need-returns-3
+returns-3 c =
+    let b = c .before .before in
+    let s = b .before .before .before .before .before in
+    let e = ap (entry (s .args .flags .now)) (b .number .ensures .0) in
+    simp (ne-eqb _ _ (b .before .before .before .before .if1 .left), ne-eqb _ _ (b .before .before .if2 .left), eq-eqb _ _ (sym e ∙ c .if3 .taken))
+
+-- src/corners.rt:11:1
+returns-4 : tie.Need-returns-4
+returns-4 c =
+    let b = c .before .before in
+    let s = b .before .before .before .before .before in
+    let e = ap (entry (s .args .flags .now)) (b .number .ensures .0) in
+    simp (ne-eqb _ _ (b .before .before .before .before .if1 .left), ne-eqb _ _ (b .before .before .if2 .left), ne-eqb _ _ (λ x. c .if3 .left (e ∙ x)))
+
+pub opens-at-spec : {M : Type 1} → statement M
+opens-at-spec =
+    tie.close
+    (tie.spec
+    returns
+    element-copy-out-if2
+    returns-2
+    element-copy-out-number
+    number-requires
+    element-copy-out-if3
+    returns-3
+    returns-4)

@@ -1,0 +1,60 @@
+use native.Mathlib.Omega.{arith}
+use Rattle.bounds.proofs.Agreeing.{lent-table, leasts-table}
+use borrow.Author.Needs.{needs}
+use Rattle.bounds.proofs.questions.leasts.Statement.{statement}
+use Rattle.bounds.proofs.questions.leasts.Tie as tie
+use Rattle.bounds.proofs.questions.leasts.Reads as reads
+use Rattle.bounds.proofs.questions.leasts.Lts as lts
+use Rattle.bounds.proofs.filling.leasts.Reads as leasts-reads
+use Rattle.bounds.proofs.flags.flags.Reads as flags-reads
+use Rattle.table.proofs.columns.parents.Reads as parents-reads
+use Rattle.table.proofs.columns.ticks.Reads as ticks-reads
+use Rattle.table.proofs.paths.wide.Reads as wide-reads
+
+-- src/questions.rt:32:19
+parents-requires : tie.Need-parents-requires
+parents-requires c κs = search needs
+
+-- src/questions.rt:33:17
+ticks-requires : tie.Need-ticks-requires
+ticks-requires c κs = search needs
+
+-- src/questions.rt:34:17
+flags-requires : tie.Need-flags-requires
+flags-requires c κs = search needs
+
+-- src/questions.rt:42:9
+wide-requires : tie.Need-wide-requires
+wide-requires c κs = search needs
+
+-- src/questions.rt:35:5
+leasts-requires : tie.Need-leasts-requires
+leasts-requires c κs =
+    let s = c .before .before .before .before .before .before .before .before .before in
+    let a = s .args in (
+      lent-table (a .table) (a .queue) (s .pre .1 .0) _ _ _ _ (c .before .before .before .before .before .before .before .parents .ensures) (c .before .before .before .before .before .before .ticks .ensures) (c .before .before .before .before .before .flags .ensures) (c .wide .ensures .0) (s .pre .0),
+      omega (arith, c .wide .ensures .0, s .pre .1 .1),
+    )
+
+-- src/questions.rt:27:1
+same-length : tie.Need-same-length
+same-length c = search needs
+
+-- src/questions.rt:27:1
+returns : tie.Need-returns
+returns c =
+    let s = c .before .before .before .before .before .before .before .before .before .before .before .before in
+    let a = s .args in
+    leasts-table (a .table) (a .queue) (s .pre .1 .0) _ _ _ _ (c .before .before .before .before .before .before .before .before .before .before .parents .ensures) (c .before .before .before .before .before .before .before .before .before .ticks .ensures) (c .before .before .before .before .before .before .before .before .flags .ensures) (c .before .before .before .wide .ensures .0) (a .pass) _ _ (c .before .before .leasts .ensures)
+
+pub leasts-spec : {M : Type 1} → statement M
+leasts-spec =
+    tie.close
+    (tie.spec
+    parents-requires
+    ticks-requires
+    flags-requires
+    wide-requires
+    leasts-requires
+    same-length
+    returns)

@@ -1,0 +1,33 @@
+use mathlib.Core.Logic.{inl, inr}
+use Prim.Native.Nat.{_≤_}
+use native.Mathlib.Omega.{arith}
+use borrow.Author.Tests.{le-leb, lt-leb, le-ltb, lt-ltb}
+use Rattle.laws.proofs.Test.{le-or-lt}
+use borrow.Author.Needs.{needs}
+use Rattle.bounds.proofs.refusals.is_outside.Statement.{statement}
+use Rattle.bounds.proofs.refusals.is_outside.Tie as tie
+use Rattle.bounds.proofs.refusals.is_outside.Reads as reads
+use Rattle.bounds.proofs.refusals.is_outside.Lts as lts
+use Rattle.table.proofs.paths.number.Reads as number-reads
+
+-- src/refusals.rt:33:9
+returns : tie.Need-returns
+returns c = rw (c .if1 .taken)
+
+-- src/refusals.rt:35:5
+number-requires : tie.Need-number-requires
+number-requires c κs = search needs
+
+-- src/refusals.rt:29:1
+returns-2 : tie.Need-returns-2
+returns-2 c =
+    let a = c .before .before .args in
+    let z : 1 ≤ a .queue = omega (arith, c .before .if1 .left) in
+    rw (c .number .ensures .0)
+    (elim (le-or-lt (a .queue) (a .queues)) [
+      | inl h ↦ simp (le-leb _ _ z, le-leb _ _ h, le-ltb _ _ h)
+      | inr h ↦ simp (le-leb _ _ z, lt-leb _ _ h, lt-ltb _ _ h)
+    ])
+
+pub is-outside-spec : {M : Type 1} → statement M
+is-outside-spec = tie.close (tie.spec returns number-requires returns-2)

@@ -1,0 +1,40 @@
+-- What the filling and the cycle tell: the refusal of the queue, and else all of its supply. Assumes nothing.
+use mathlib.Core.Path.{_≡_, sym, ap, _∙_}
+use mathlib.Core.List.{List}
+use Prim.Native.Nat.{ℕ}
+use lib.ListN.{length}
+use Rattle.theory.specs.Grants.{is}
+use Rattle.theory.specs.Tree.{CycleLeast}
+use Rattle.theory.specs.Cycles.{cycleLeast, system}
+use Rattle.theory.proofs.Period.{cycle-least}
+use Rattle.table.specs.declared.Table.{Table}
+use Rattle.table.specs.declared.Refusal.{Refusal}
+use Rattle.table.specs.Table.{treeOf}
+use Rattle.table.specs.Rules.{WellFormed}
+use Rattle.table.specs.Ranged.{Ranged}
+use Rattle.bounds.specs.declared.CycleAnswer.{CycleAnswer}
+use Rattle.bounds.specs.Questions.{queueRefusal, fillRefusal, CycleAnswers, Fills}
+use Rattle.verdict.specs.Parts.{Supplied}
+use Rattle.verdict.proofs.InOrder.{Passes, asked-formed, fill-asked}
+
+-- what is known once the slice is filled, or not
+pub record Prepared (t : Table) (q : ℕ) (filled : List ℕ) (r : Refusal) : Type 0 where
+  pub asked : r ≡ queueRefusal t q
+  pub refuses : ¬ Passes r → ¬ Passes (queueRefusal t q)
+  pub passes : Passes r → Passes (queueRefusal t q)
+  pub formed : Passes r → WellFormed t
+  pub supplied : Passes r → (a : CycleAnswer) → CycleAnswers t q a → Supplied t q filled (a .least)
+  pub cycle-least : Passes (queueRefusal t q) → CycleLeast (treeOf t) (is q) (cycleLeast (system (treeOf t)) (is q))
+
+pub prepared : (t : Table) (q : ℕ) (before after : List ℕ) (r : Refusal) → Ranged t → length before ≡ 2048 → Fills t q before after r → Prepared t q after r
+prepared t q before after r range room fills =
+    let e : r ≡ queueRefusal t q = fills .refusal ∙ (ap (fillRefusal t q) room ∙ fill-asked t q range) in
+    let n : r .number ≡ queueRefusal t q .number = ap (λ (s : Refusal). s .number) e in
+    record {
+      asked = e;
+      refuses = λ h p. h (n ∙ p);
+      passes = λ p. sym n ∙ p;
+      formed = λ p. asked-formed t q range (sym n ∙ p);
+      supplied = λ p a says. record { least = fills .least p; cycle-least = says .least (sym n ∙ p) };
+      cycle-least = λ p. cycle-least (treeOf t) (asked-formed t q range p .formed) (is q);
+    }

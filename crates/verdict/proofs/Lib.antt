@@ -1,0 +1,10 @@
+-- The laws behind the questions, in reading order.
+pub mod BetweenDeadlines
+pub mod Multiples
+pub mod Columns
+pub mod Supply
+pub mod Swept
+pub mod LongestWait
+pub mod InOrder
+pub mod Filled
+pub mod Unique

@@ -1,0 +1,3 @@
+-- What the questions answer, then what the functions below them hand back.
+pub mod Questions
+pub mod Parts

@@ -1,0 +1,167 @@
+// Demand, verdict and wait of a queue (docs/RULES.md, Demand, verdict and wait).
+ghost use mathlib.Core.Path.{_≡_};
+ghost use Rattle.table.specs.Rules.{refusal};
+ghost use Rattle.bounds.specs.Questions.{queueRefusal};
+ghost use Rattle.verdict.specs.Questions.{refusedAnswer, meetsAnswer, shortAnswer, DemandAnswer, VerdictAnswers, WaitAnswer};
+use bounds::TicksAnswer;
+use table::Refusal;
+use table::Table;
+
+mod deadlines;
+mod due;
+mod multiple;
+mod search;
+mod waits;
+
+// MEETS, or the shortest window in which demand exceeds the least supply. Zeros beside a refusal and beside MEETS.
+#[repr(C)]
+pub struct VerdictAnswer {
+    pub refusal: Refusal,
+    pub meets: bool,
+    pub window: u32,
+    pub demand: u32,
+    pub supply: u32,
+}
+
+impl VerdictAnswer {
+    // The largest multiple for which there is a verdict.
+    pub const LIMIT: u32 = 1_000_000;
+
+    // Room for the filling of the longest period.
+    pub const FILLING: usize = 2048;
+
+    fn refused(refusal: Refusal) -> VerdictAnswer
+        ensures { λ r. ⌜ r ≡ refusedAnswer refusal ⌝ }
+    {
+        VerdictAnswer {
+            refusal: refusal,
+            meets: false,
+            window: 0,
+            demand: 0,
+            supply: 0,
+        }
+    }
+
+    fn met() -> VerdictAnswer
+        ensures { λ r. ⌜ r ≡ meetsAnswer ⌝ }
+    {
+        VerdictAnswer {
+            refusal: Refusal {
+                number: Refusal::NONE,
+                place: 0,
+            },
+            meets: true,
+            window: 0,
+            demand: 0,
+            supply: 0,
+        }
+    }
+
+    fn short(window: u32, demand: u32, supply: u32) -> VerdictAnswer
+        ensures { λ r. ⌜ r ≡ shortAnswer window demand supply ⌝ }
+    {
+        VerdictAnswer {
+            refusal: Refusal {
+                number: Refusal::NONE,
+                place: 0,
+            },
+            meets: false,
+            window: window,
+            demand: demand,
+            supply: supply,
+        }
+    }
+}
+
+// The longest window and the most ticks that are asked about.
+const WINDOW: u32 = 2_000_000;
+
+const TICKS: u32 = 65_535;
+
+fn refused(number: u8) -> Refusal
+    ensures { λ r. ⌜ r ≡ refusal number 0 ⌝ }
+{
+    Refusal {
+        number: number,
+        place: 0,
+    }
+}
+
+fn told(refusal: Refusal, ticks: u32) -> TicksAnswer
+    ensures { λ r. ⌜ (r .refusal ≡ refusal) × (r .ticks ≡ ticks) ⌝ }
+{
+    TicksAnswer {
+        refusal: refusal,
+        ticks: ticks,
+    }
+}
+
+// The table's refusal, then QUEUE.
+fn asked(table: Table, queue: u32) -> Refusal
+    ensures { λ r. ⌜ r ≡ queueRefusal table queue ⌝ }
+{
+    let judged = table::judge(table);
+    if judged.number != Refusal::NONE {
+        return judged;
+    }
+    if queue < 1 {
+        return refused(Refusal::QUEUE);
+    }
+    if due::number(table.queues) < queue {
+        return refused(Refusal::QUEUE);
+    }
+    judged
+}
+
+// The most work that can both be released and be due within a window.
+pub fn demand(table: Table, queue: u32, window: u32) -> TicksAnswer
+    ensures { λ r. ⌜ DemandAnswer table queue window r ⌝ }
+{
+    let refusal = asked(table, queue);
+    if refusal.number != Refusal::NONE {
+        return told(refusal, 0);
+    }
+    if WINDOW < window {
+        return told(refused(Refusal::AMOUNT), 0);
+    }
+    told(refusal, due::of_queue(table, queue, window))
+}
+
+// Is demand at most the least supply in every window? Else the shortest window in which it is not.
+pub fn verdict(table: Table, queue: u32) -> VerdictAnswer
+    ensures { λ r. ⌜ VerdictAnswers table queue r ⌝ }
+{
+    let mut filled = [0u32; VerdictAnswer::FILLING];
+    let refusal = bounds::fill(table, queue, &mut filled);
+    if refusal.number != Refusal::NONE {
+        return VerdictAnswer::refused(refusal);
+    }
+    let multiple = multiple::of_queue(table, queue);
+    if VerdictAnswer::LIMIT < multiple {
+        return VerdictAnswer::refused(refused(Refusal::HORIZON));
+    }
+    let cycle = bounds::cycle(table, queue).least;
+    search::decide(table, queue, &filled, cycle, multiple)
+}
+
+// The longest time until one message of so many ticks, alone in its queue, is sent.
+pub fn wait(table: Table, queue: u32, ticks: u32) -> TicksAnswer
+    ensures { λ r. ⌜ WaitAnswer table queue ticks r ⌝ }
+{
+    let mut filled = [0u32; VerdictAnswer::FILLING];
+    let refusal = bounds::fill(table, queue, &mut filled);
+    if refusal.number != Refusal::NONE {
+        return told(refusal, 0);
+    }
+    if ticks < 1 {
+        return told(refused(Refusal::AMOUNT), 0);
+    }
+    if TICKS < ticks {
+        return told(refused(Refusal::AMOUNT), 0);
+    }
+    let cycle = bounds::cycle(table, queue).least;
+    if cycle < 1 {
+        return told(refused(Refusal::NEVER), 0);
+    }
+    told(refusal, waits::longest(table, queue, &filled, cycle, ticks))
+}

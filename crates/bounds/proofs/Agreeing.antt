@@ -6,7 +6,6 @@ use mathlib.Core.List.{List}
 use Prim.Native.Nat.{ℕ, _+_, _-_, _*_, _/_, _%_, _≤_, _<_}
 use native.Mathlib.Nat.{mod-lt}
 use native.Mathlib.Omega.{arith}
-use lib.Dec.{eqb}
 use lib.ListN.{getD}
 use Rattle.laws.specs.Test.{bit, any}
 use Rattle.laws.proofs.Test.{neqb-of, bit-no}
@@ -19,12 +18,13 @@ use Rattle.theory.proofs.Cycles.{least-far}
 use Rattle.theory.proofs.Runs.{sound}
 use Rattle.table.specs.declared.Location.{Location}
 use Rattle.table.specs.declared.Table.{Table}
-use Rattle.table.specs.Table.{noLocation, locationAt, treeOf}
+use Rattle.table.specs.Table.{locationAt, treeOf}
 use Rattle.table.specs.Rules.{WellFormed}
 use Rattle.table.specs.Columns.{parentColumn, ticksColumn, entry, zeros}
 use Rattle.table.proofs.Copied.{column-entry}
-use Rattle.bounds.specs.Lent.{flagColumn, asks, lentTree, Lent}
-use Rattle.bounds.specs.Slice.{Becomes}
+use Rattle.bounds.specs.Flagged.{flagColumn, asks}
+use Rattle.filling.specs.Lent.{lentTree, Lent}
+use Rattle.slice.specs.Changes.{Becomes}
 
 -- ---- what the flags ask
 

@@ -10,7 +10,7 @@ use Rattle.theory.proofs.Bounds.{most-of-least}
 use Rattle.theory.proofs.Runs.{tree-least}
 use Rattle.theory.proofs.Period.{cycle-least, cycle-most-of-least}
 use Rattle.table.specs.declared.Refusal.{Refusal}
-use Rattle.bounds.specs.Lent.{asks}
+use Rattle.bounds.specs.Flagged.{asks}
 use Rattle.bounds.specs.Questions.{Answer}
 use Rattle.bounds.proofs.Agreeing.{asks-own, asks-others}
 

@@ -1,10 +1,5 @@
--- Laws of slices and columns, in reading order.
-pub mod Between
-pub mod Settling
-pub mod Lowering
-pub mod Closing
-pub mod Resting
-pub mod Leasts
+-- Refusals in order, columns and tables, then the answers.
 pub mod Refused
 pub mod Agreeing
 pub mod Answered
+pub mod Unique

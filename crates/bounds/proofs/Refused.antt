@@ -1,19 +1,31 @@
 -- One refusal after the other: the first that applies stands, and number 0 says that none does. Assumes nothing.
 use mathlib.Core.Path.{_≡_, refl, sym, ap, _∙_}
 use mathlib.Core.Bool.{Bool, true, false, not}
+use mathlib.Core.Logic.{inl, inr}
 use Prim.Native.Nat.{ℕ, zero, suc, _*_, _≤_}
 use native.Mathlib.Omega.{arith}
-use lib.Dec.{T, ltb, leb, leb→le}
+use lib.Dec.{T-not, ltb, leb, leb→le, eqb, eqb→eq}
 use borrow.Author.Tests.{ltb-false}
-use Rattle.laws.proofs.Test.{and-left, and-right}
+use Rattle.laws.proofs.Test.{either, and-left, and-right, eqb-of}
 use Rattle.table.specs.declared.Table.{Table}
 use Rattle.table.specs.declared.Refusal.{Refusal}
 use Rattle.table.specs.Ranged.{Ranged}
-use Rattle.table.specs.Rules.{within, refusal, fine, judged, WellFormed}
+use Rattle.table.specs.Rules.{within, judged, WellFormed}
 use Rattle.table.proofs.Flags.{of-false, not-not}
 use Rattle.table.proofs.Unbroken.{unbroken, unbroken-fine}
 use Rattle.table.proofs.WellFormed.{judged-well-formed}
 use Rattle.bounds.specs.Questions.{refuseIf, also, queueRefusal, windowRefusal, fillRefusal}
+
+-- nothing is refused
+abbrev pub Passes : Refusal → Type 0
+Passes r = r .number ≡ 0
+
+-- refused or not
+pub passes-or : (r : Refusal) (A : Type 0) → (Passes r → A) → (¬ Passes r → A) → A
+passes-or r A y n = elim (either (eqb (r .number) 0)) [
+  | inl t ↦ y (eqb→eq (r .number) 0 t)
+  | inr t ↦ n (λ e. T-not (eqb (r .number) 0) t (eqb-of (r .number) 0 e))
+]
 
 module _ (r : Refusal) (broken : Bool) (n : ℕ) where
   -- the answer, by the number that is there already

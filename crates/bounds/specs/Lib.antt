@@ -1,4 +1,3 @@
--- What the questions for bounds answer, and what the functions below them compute from lent columns.
+-- What the questions for bounds answer, and the flags that ask for a queue.
 pub mod Questions
-pub mod Lent
-pub mod Slice
+pub mod Flagged

@@ -2,7 +2,7 @@
 ghost use mathlib.Core.Path.{_≡_};
 ghost use Rattle.laws.specs.Test.{pick};
 ghost use Rattle.theory.specs.Grants.{is};
-ghost use Rattle.bounds.specs.Lent.{flagColumn};
+ghost use Rattle.bounds.specs.Flagged.{flagColumn};
 use table::Table;
 use table::paths;
 

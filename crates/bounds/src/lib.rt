@@ -1,17 +1,11 @@
 // The bounds of a table: least, most, cycle least and most, and the filling (docs/RULES.md, Runs and bounds).
 ghost use Rattle.bounds.specs.Questions.{LeastAnswer, MostAnswer, CycleAnswers, Fills};
 
-mod corners;
-mod filling;
 mod flags;
-mod numbers;
-mod passes;
-mod points;
 mod questions;
-mod refusals;
-mod rest;
-mod sums;
+pub mod refusals;
 
+use slice::numbers;
 use table::Refusal;
 use table::Table;
 
@@ -51,7 +45,7 @@ pub fn most(table: Table, queue: u32, window: u32) -> TicksAnswer
     let refusal = refusals::of_window(table, queue, window);
     let mut ticks: u32 = 0;
     if refusal.number == Refusal::NONE {
-        ticks = window - questions::bound(table, queue as usize, 0, window);
+        ticks = numbers::left(window, questions::bound(table, queue as usize, 0, window));
     }
     TicksAnswer {
         refusal: refusal,
@@ -75,7 +69,7 @@ pub fn cycle(table: Table, queue: u32) -> CycleAnswer
     CycleAnswer {
         refusal: refusal,
         least: questions::cycle(table, queue as usize, 1),
-        most: period - questions::cycle(table, queue as usize, 0),
+        most: numbers::left(period, questions::cycle(table, queue as usize, 0)),
     }
 }
 

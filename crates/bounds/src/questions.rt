@@ -1,15 +1,14 @@
 // The bounds of a well-formed table, by its columns. `pass` 1 asks for a queue's own ticks, 0 for those of all others.
 ghost use mathlib.Core.Path.{_≡_};
-ghost use Prim.Native.Nat.{ℕ, _-_, _*_, _≤_, _<_};
+ghost use Prim.Native.Nat.{_-_, _*_, _≤_, _<_};
 ghost use lib.ListN.{length};
 ghost use Rattle.theory.specs.Cycles.{system, cycleLeast, leastOf};
 ghost use Rattle.table.specs.Table.{treeOf};
 ghost use Rattle.table.specs.Rules.{WellFormed};
-ghost use Rattle.bounds.specs.Lent.{asks};
-ghost use Rattle.bounds.specs.Slice.{Becomes};
-use crate::filling;
+ghost use Rattle.bounds.specs.Flagged.{asks};
+ghost use Rattle.slice.specs.Changes.{Becomes};
 use crate::flags;
-use crate::numbers;
+use slice::numbers;
 use table::Table;
 use table::columns;
 use table::paths;

@@ -9,12 +9,12 @@ use table::Refusal;
 use table::Table;
 use words::text;
 
+mod answers;
+mod numbers;
 mod records;
 mod refusals;
 mod runs;
 mod supplies;
-mod verdicts;
-mod words;
 
 // The bytes of a question before its name.
 const HEAD: usize = 14;
@@ -50,9 +50,9 @@ fn parts_at(s: &[u8], at: usize) -> Parts
     if n < name {
         return cut;
     }
-    let steps = name + words::wide(s[at]);
-    let bytes = steps + words::number16(s, at + 10);
-    let end = bytes + words::number16(s, at + 12);
+    let steps = name + numbers::wide(s[at]);
+    let bytes = steps + numbers::number16(s, at + 10);
+    let end = bytes + numbers::number16(s, at + 12);
     if n < end {
         return cut;
     }
@@ -77,8 +77,8 @@ fn asked_at(s: &[u8], at: usize) -> Asked
     }
     Asked {
         kind: s[at + 1],
-        first: words::number32(s, at + 2),
-        second: words::number32(s, at + 6),
+        first: numbers::number32(s, at + 2),
+        second: numbers::number32(s, at + 6),
     }
 }
 
@@ -91,14 +91,14 @@ fn ask_table(table: Table, asked: Asked, steps: &[u8], s: &[u8]) {
         b'r' => records::lend(s, table, first as usize),
         b'l' => records::with_locations(s, table, first as usize),
         b't' => records::with_tasks(s, table, first as usize),
-        b'L' => words::answer(bounds::least(table, first, second)),
-        b'M' => words::answer(bounds::most(table, first, second)),
+        b'L' => answers::ticks(bounds::least(table, first, second)),
+        b'M' => answers::ticks(bounds::most(table, first, second)),
         b'C' => supplies::cycle(table, first),
         b'F' => supplies::fill(table, first, second as usize, 0),
         b'E' => supplies::fill(table, first, second as usize, supplies::LATE),
-        b'D' => words::answer(verdict::demand(table, first, second)),
-        b'V' => verdicts::verdict(table, first),
-        b'W' => words::answer(verdict::wait(table, first, second)),
+        b'D' => answers::ticks(verdict::demand(table, first, second)),
+        b'V' => answers::verdict(verdict::verdict(table, first)),
+        b'W' => answers::ticks(verdict::wait(table, first, second)),
         b'J' => refusals::all(table, first as usize, steps),
         b'S' => runs::from_fresh(table, steps),
         b'U' => runs::from_given(table, steps),
@@ -114,7 +114,7 @@ fn ask(asked: Asked, steps: &[u8], s: &[u8]) {
     let answer = record::read(s);
     let refusal = answer.refusal;
     if refusal.number != Refusal::NONE {
-        words::refused(refusal);
+        answers::refused(refusal);
         return;
     }
     ask_table(answer.table, asked, steps, s);

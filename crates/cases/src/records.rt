@@ -1,9 +1,9 @@
 // Questions about a record: its table read and written again, and one field's payload.
-use crate::words::number;
-use crate::words::refused;
-use crate::words::text;
+use crate::answers::refused;
 use table::Refusal;
 use table::Table;
+use words::number;
+use words::text;
 
 // The bytes lent to the writer, and what they hold before.
 const LENT: usize = 2048;
@@ -49,7 +49,7 @@ fn is_written(s: &[u8], n: usize, out: &[u8], before: &[u8]) -> bool {
 }
 
 fn write(s: &[u8], table: Table, out: &mut [u8], before: &[u8]) {
-    let answer = record::write(table, out);
+    let answer = writer::write(table, out);
     let refusal = answer.refusal;
     if refusal.number != Refusal::NONE {
         refused(refusal);

@@ -4,16 +4,16 @@
 // location (1), done (2), and for each of 32 jobs since, remaining and left (2 each).
 ghost use Prim.Native.Nat.{_+_, _≤_};
 ghost use lib.ListN.{length};
-use crate::words::number;
-use crate::words::number16;
-use crate::words::number32;
-use crate::words::refused;
-use crate::words::text;
-use runner::Job;
+use crate::answers::refused;
+use crate::numbers::number16;
+use crate::numbers::number32;
+use jobs::Job;
 use runner::State;
 use runner::StepAnswer;
 use table::Refusal;
 use table::Table;
+use words::number;
+use words::text;
 
 const STEP: usize = 20;
 

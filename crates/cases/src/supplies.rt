@@ -1,8 +1,8 @@
 // Questions about the supply of a queue: cycle and filling.
-use crate::words::number;
-use crate::words::refused;
+use crate::answers::refused;
 use table::Refusal;
 use table::Table;
+use words::number;
 
 // The entries lent for a filling, and what they hold before.
 const LENT: usize = 2049;

@@ -6,8 +6,6 @@ pub mod Places
 pub mod Fields
 pub mod Length
 pub mod Question
-pub mod Writing
-pub mod Written
 -- Both round trips.
 pub mod Payloads
 pub mod WrittenReads
@@ -15,4 +13,3 @@ pub mod ReadWrites
 pub mod Accepted
 -- What the contracts settle.
 pub mod Unique
-pub mod UniqueWrite

@@ -8,6 +8,7 @@ use Rattle.laws.specs.Test.{pick}
 use Rattle.table.specs.declared.Table.{Table}
 use Rattle.table.specs.declared.Refusal.{Refusal}
 use Rattle.table.specs.Rules.{refusal, fine}
+use Rattle.record.specs.declared.FieldAnswer.{FieldAnswer}
 use Rattle.record.specs.Format.{locationOffset, taskOffset}
 use Rattle.record.specs.Reading.{readOf}
 
@@ -38,3 +39,7 @@ partLength s k = elim (fieldRefusal s k .number) [ zero ↦ payloadLength (readO
 
 abbrev pub partOf : List ℕ → ℕ → List ℕ
 partOf s k = take (partLength s k) (drop (partOffset s k) s)
+
+-- The question answered by numbers: the refusal, and where the part lies.
+abbrev pub fieldOf : List ℕ → ℕ → FieldAnswer
+fieldOf s k = record { refusal = fieldRefusal s k; offset = partOffset s k; length = partLength s k }

@@ -6,29 +6,29 @@ ghost use Rattle.record.specs.Format.{recordLength};
 ghost use Rattle.record.specs.Field.{fieldCount, payloadOffset, payloadLength};
 use table::Table;
 
-pub(crate) const HEADER_TAG: u8 = 1;
+pub const HEADER_TAG: u8 = 1;
 
-pub(crate) const LOCATION_TAG: u8 = 2;
+pub const LOCATION_TAG: u8 = 2;
 
-pub(crate) const TASK_TAG: u8 = 3;
+pub const TASK_TAG: u8 = 3;
 
-pub(crate) const HEADER_LENGTH: u16 = 4;
+pub const HEADER_LENGTH: u16 = 4;
 
-pub(crate) const LOCATION_LENGTH: u16 = 9;
+pub const LOCATION_LENGTH: u16 = 9;
 
-pub(crate) const TASK_LENGTH: u16 = 7;
+pub const TASK_LENGTH: u16 = 7;
 
 // Where the length begins in its field: after the tag.
-pub(crate) const LENGTH: usize = 1;
+pub const LENGTH: usize = 1;
 
 // Where a payload begins in its field: after tag and length.
-pub(crate) const PAYLOAD: usize = 3;
+pub const PAYLOAD: usize = 3;
 
-pub(crate) const HEADER_FIELD: usize = 7;
+pub const HEADER_FIELD: usize = 7;
 
-pub(crate) const LOCATION_FIELD: usize = 12;
+pub const LOCATION_FIELD: usize = 12;
 
-pub(crate) const TASK_FIELD: usize = 10;
+pub const TASK_FIELD: usize = 10;
 
 // The header is field 0, location v is field v + HEADERS; the tasks come after the locations.
 const HEADERS: usize = 1;

@@ -1,16 +1,14 @@
-// The record of a table as bytes: reading, writing, and the question for one field (docs/RULES.md, The record).
+// The record of a table as bytes: reading it, and the question for one field (docs/RULES.md, The record).
 mod bytes; // bytes.rt: numbers of two bytes
-mod format; // format.rt: tags and lengths
+pub mod format; // format.rt: tags and lengths
 mod front; // front.rt: the fields from the front
 mod payload; // payload.rt: what a payload holds
 mod refusals; // refusals.rt: the tests at one field
-mod writer; // writer.rt: a table as its record
 
-pub use writer::write;
 ghost use mathlib.Core.Path.{_≡_};
 ghost use Prim.Native.Nat.{_+_};
 ghost use Rattle.record.specs.Reading.{readOf};
-ghost use Rattle.record.specs.Field.{fieldRefusal, partOf, partOffset};
+ghost use Rattle.record.specs.Field.{fieldRefusal, partOf, partOffset, fieldOf};
 use table::Refusal;
 use table::Table;
 
@@ -20,9 +18,11 @@ pub struct ReadAnswer {
     pub table: Table,
 }
 
+// Where the payload of a field lies in the record; zeros beside a refusal.
 #[repr(C)]
-pub struct WriteAnswer {
+pub struct FieldAnswer {
     pub refusal: Refusal,
+    pub offset: usize,
     pub length: usize,
 }
 
@@ -34,7 +34,7 @@ pub fn read(bytes: &[u8]) -> ReadAnswer
     if answer.refusal.number != Refusal::NONE {
         return answer;
     }
-    let refusal = table::judge(answer.table);
+    let refusal = judge::judge(answer.table);
     if refusal.number != Refusal::NONE {
         return front::refused(refusal.number, refusal.place);
     }
@@ -58,23 +58,39 @@ pub fn field<'a>(bytes: &'a [u8], k: usize) -> &'a [u8]
     &bytes[from..end]
 }
 
-// Why the question for field k is refused, and where; nothing where `field` gives the payload.
-pub fn field_refusal(bytes: &[u8], k: usize) -> Refusal
-    ensures { λ r. ⌜ r ≡ fieldRefusal (now (bytes .entry)) k ⌝ }
+// The same question, answered by where the payload lies, for callers that no part of their bytes can be handed back to.
+pub fn field_place(bytes: &[u8], k: usize) -> FieldAnswer
+    ensures { λ r. ⌜ r ≡ fieldOf (now (bytes .entry)) k ⌝ }
 {
     let answer = read(bytes);
     let refusal = answer.refusal;
     if refusal.number != Refusal::NONE {
-        return refusal;
-    }
-    if format::field_count(answer.table) <= k {
-        return Refusal {
-            number: Refusal::AMOUNT,
-            place: 0,
+        return FieldAnswer {
+            refusal: refusal,
+            offset: 0,
+            length: 0,
         };
     }
-    Refusal {
-        number: Refusal::NONE,
-        place: 0,
+    if format::field_count(answer.table) <= k {
+        return FieldAnswer {
+            refusal: Refusal {
+                number: Refusal::AMOUNT,
+                place: 0,
+            },
+            offset: 0,
+            length: 0,
+        };
     }
+    FieldAnswer {
+        refusal: Refusal::none(),
+        offset: format::payload_offset(answer.table, k),
+        length: format::payload_length(answer.table, k),
+    }
+}
+
+// Why the question for field k is refused, and where; nothing where `field` gives the payload.
+pub fn field_refusal(bytes: &[u8], k: usize) -> Refusal
+    ensures { λ r. ⌜ r ≡ fieldRefusal (now (bytes .entry)) k ⌝ }
+{
+    field_place(bytes, k).refusal
 }

@@ -12,7 +12,8 @@ use Rattle.table.specs.declared.Table.{Table}
 use Rattle.table.specs.Table.{treeOf, tasksOf}
 use Rattle.table.proofs.Flags.{not-not}
 use Rattle.runner.specs.declared.State.{State}
-use Rattle.runner.specs.State.{jobOf, noJob, jobAt, Lawful, isIdle, isOpen, isLawfulJob, isZero, unlawful, leftOver, isLawful}
+use Rattle.jobs.specs.Entries.{jobOf, noJob}
+use Rattle.runner.specs.State.{jobAt, Lawful, isIdle, isOpen, isLawfulJob, isZero, unlawful, leftOver, isLawful}
 
 -- ---- one job
 

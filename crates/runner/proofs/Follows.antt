@@ -27,10 +27,10 @@ use Rattle.runner.specs.declared.State.{State}
 use Rattle.runner.specs.declared.FreshAnswer.{FreshAnswer}
 use Rattle.runner.specs.declared.StepAnswer.{StepAnswer}
 use Rattle.runner.specs.State.{jobAt, positionOf, Lawful, freshState, freshAnswer}
-use Rattle.runner.specs.Step.{isEarly, valueAt, choiceOf, stepped}
+use Rattle.runner.specs.Step.{isEarly, valueAt, stepped}
 use Rattle.runner.specs.History.{Inputs, stateAt, answerAt, History, walked, granted, releases, service, jobsBefore, Ready, Follows}
-use Rattle.runner.proofs.Rows.{row-at}
-use Rattle.runner.proofs.Service.{says-chosen}
+use Rattle.jobs.proofs.Rows.{row-at}
+use Rattle.jobs.proofs.Service.{says-chosen}
 use Rattle.runner.proofs.Same.{chosen-same, served-same, step-same}
 use Rattle.runner.proofs.Agrees.{lawful-of}
 use Rattle.runner.proofs.Refusals.{Passes, well-formed, fresh-judged, fresh-given, step-given, accepted-passes, passes-accepted}

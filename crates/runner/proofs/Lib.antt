@@ -1,7 +1,5 @@
 -- What the proofs of the functions cite: rows of entries, passes over them, whom a tick serves, where a value leads.
-pub mod Rows
 pub mod Passes
-pub mod Service
 pub mod Leads
 pub mod Rounds
 pub mod Agrees

@@ -14,11 +14,11 @@ use Rattle.theory.specs.Job.{Job, serve, age, isLate, drop}
 use Rattle.theory.specs.Steps.{names, released, served, step, waits, earliest}
 use Rattle.table.specs.declared.Table.{Table}
 use Rattle.table.specs.Table.{tasksOf}
-use Rattle.runner.specs.declared.Job.{Job as Entry}
-use Rattle.runner.specs.State.{jobIn, row}
-use Rattle.runner.specs.Step.{choiceOf, chosenBy, aged}
-use Rattle.runner.proofs.Rows.{row-at, row-same}
-use Rattle.runner.proofs.Service.{says-chosen}
+use Rattle.jobs.specs.declared.Job.{Job as Entry}
+use Rattle.jobs.specs.Entries.{jobIn, row}
+use Rattle.jobs.specs.Entries.{choiceOf, chosenBy, aged}
+use Rattle.jobs.proofs.Rows.{row-at, row-same}
+use Rattle.jobs.proofs.Service.{says-chosen}
 
 module _ (t : Table) (few : t .tasks ≤ 32) (js : ℕ → Job) (set q : ℕ) where
   -- what each pass leaves

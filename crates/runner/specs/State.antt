@@ -1,52 +1,28 @@
 -- The runner's state: what it says of a position and of jobs, when it is lawful for a table, and the fresh one.
 use mathlib.Core.Path.{_≡_}
 use mathlib.Core.Bool.{Bool, not, _&&_, _||_}
-use mathlib.Core.List.{List}
 use Prim.Native.Nat.{ℕ, zero, suc, _+_, _≤_, _<_}
-use lib.ListN.{getD, replicate}
+use lib.ListN.{replicate}
 use lib.Dec.{eqb, leb, ltb}
 use Rattle.laws.specs.Test.{none}
-use Rattle.laws.specs.Up.{upTo}
 use Rattle.theory.specs.Tree.{Position}
 use Rattle.theory.specs.Task.{Task}
 use Rattle.theory.specs.Job.{Job, fresh, LawfulJob}
 use Rattle.table.specs.declared.Table.{Table}
-use Rattle.table.specs.declared.Task.{Task as TableTask}
 use Rattle.table.specs.Table.{treeOf, tasksOf}
 use Rattle.table.specs.Rules.{judged}
-use Rattle.runner.specs.declared.Job.{Job as Entry}
+use Rattle.jobs.specs.Entries.{jobOf, noJob, jobIn, row}
 use Rattle.runner.specs.declared.State.{State}
 use Rattle.runner.specs.declared.FreshAnswer.{FreshAnswer}
 
 -- ---- what a state says
 
--- An entry of a state as the theory's job, and back; a task of a table as the theory's.
-abbrev pub jobOf : Entry → Job
-jobOf j = record { since = j .since; remaining = j .remaining; left = j .left }
-
-abbrev pub entryOf : Job → Entry
-entryOf j = record { since = j .since; remaining = j .remaining; left = j .left }
-
-abbrev pub taskOf : TableTask → Task
-taskOf k = record { queue = k .queue; work = k .work; deadline = k .deadline; gap = k .gap }
-
--- An entry of zeros.
-abbrev pub noJob : Entry
-noJob = record { since = 0; remaining = 0; left = 0 }
-
--- Task i's job.
-abbrev pub jobIn : List Entry → ℕ → Job
-jobIn entries i = jobOf (getD entries i noJob)
-
+-- Task i's job, and the position.
 abbrev pub jobAt : State → ℕ → Job
 jobAt s = jobIn (s .jobs)
 
 abbrev pub positionOf : State → Position
 positionOf s = record { location = s .location; done = s .done }
-
--- The 32 entries of n jobs: those past them are 0.
-abbrev pub row : ℕ → (ℕ → Job) → List Entry
-row n js = upTo (λ i. entryOf (js i)) n (replicate 32 noJob)
 
 -- The state at a position with a job for each task.
 abbrev pub stateOf : Table → Position → (ℕ → Job) → State

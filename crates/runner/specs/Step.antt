@@ -1,22 +1,22 @@
 -- One step: what it refuses, its four rules, and its answer.
-use mathlib.Core.Bool.{Bool, true, false, not, _&&_, _||_}
+use mathlib.Core.Bool.{Bool, false, not, _&&_, _||_}
 use mathlib.Core.List.{List}
 use Prim.Native.Nat.{ℕ}
 use lib.ListN.{getD}
 use lib.Dec.{leb, ltb}
-use Rattle.laws.specs.Found.{Found, nobody, at, found, first}
+use Rattle.laws.specs.Found.{Found, first}
 use Rattle.laws.specs.Bits.{inSet, setOf}
 use Rattle.theory.specs.Tree.{Position, grant}
 use Rattle.theory.specs.Guards.{move}
-use Rattle.theory.specs.Job.{Job, serve, age, isLate}
-use Rattle.theory.specs.Steps.{names, released, served, step, earliest}
+use Rattle.theory.specs.Job.{Job, age, isLate}
+use Rattle.theory.specs.Steps.{released, served, step, earliest}
 use Rattle.table.specs.declared.Table.{Table}
 use Rattle.table.specs.declared.Refusal.{Refusal}
 use Rattle.table.specs.Table.{treeOf, tasksOf}
 use Rattle.table.specs.Rules.{fine, refuse, foundIf, judged}
 use Rattle.runner.specs.declared.State.{State}
 use Rattle.runner.specs.declared.places.Place.{Place}
-use Rattle.runner.specs.declared.rules.Choice.{Choice}
+use Rattle.jobs.specs.Entries.{choiceOf}
 use Rattle.runner.specs.declared.StepAnswer.{StepAnswer}
 use Rattle.runner.specs.State.{jobAt, positionOf, stateOf, isLawful, unless}
 
@@ -45,18 +45,6 @@ valueAt values i = getD values i 0
 
 abbrev pub placeOf : Position → Place
 placeOf p = record { location = p .location; done = p .done }
-
--- Whom the tick serves, as the answer says it: whether a task is served, and its number, 0 where none is.
-abbrev pub choiceOf : Found → Choice
-choiceOf nobody = record { served = false; task = 0 }
-choiceOf (at i) = record { served = true; task = i }
-
-abbrev pub chosenBy : Choice → Found
-chosenBy c = found (c .served) (c .task) nobody
-
--- Job i once the tick is served and over, before it is dropped.
-abbrev pub aged : Table → Found → (ℕ → Job) → ℕ → Job
-aged t chosen js i = age (tasksOf t .task i) (serve (names chosen i) (js i))
 
 -- Rule 1: the set's tasks are released. Rule 2: the tick of the location's queue goes to the earliest deadline.
 -- Rule 3: time goes on for every job; a late one is named and dropped. Rule 4: the place moves on by the values.

@@ -1,7 +1,7 @@
 -- The worked steps of docs/RULES.md, Table A: from the fresh state, all with variable 0 at 100.
 use mathlib.Core.Path.{_≡_}
 use mathlib.Core.Bool.{Bool, true, false}
-use mathlib.Core.List.{List, [], _∷_, _++_}
+use mathlib.Core.List.{List, [], _∷_}
 use Prim.Native.Nat.{ℕ}
 use lib.ListN.{replicate}
 use Rattle.table.specs.declared.Table.{Table}

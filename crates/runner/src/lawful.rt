@@ -5,11 +5,13 @@ ghost use Prim.Native.Nat.{_≤_};
 ghost use lib.Dec.{ltb};
 ghost use Rattle.laws.specs.Test.{none};
 ghost use Rattle.table.specs.Rules.{fine, refuse};
-ghost use Rattle.runner.specs.State.{jobOf, taskOf, jobIn, isIdle, isOpen, isLawfulJob, isZero, unlawful, leftOver, isLawful};
+ghost use Rattle.table.specs.Table.{asTask};
+ghost use Rattle.jobs.specs.Entries.{jobOf, jobIn};
+ghost use Rattle.runner.specs.State.{isIdle, isOpen, isLawfulJob, isZero, unlawful, leftOver, isLawful};
 ghost use Rattle.runner.specs.Step.{earlyTask};
-use crate::Job;
 use crate::State;
-use crate::jobs;
+use jobs::Job;
+use jobs::one;
 use table::Refusal;
 use table::Table;
 use table::Task;
@@ -26,7 +28,7 @@ fn is_idle(job: Job) -> bool
 
 // The true sum of since and left can need 17 bits.
 fn is_open(job: Job, task: Task) -> bool
-    ensures { λ r. ⌜ r ≡ isOpen (taskOf task) (jobOf job) ⌝ }
+    ensures { λ r. ⌜ r ≡ isOpen (asTask task) (jobOf job) ⌝ }
 {
     if job.remaining < 1 {
         return false;
@@ -42,7 +44,7 @@ fn is_open(job: Job, task: Task) -> bool
 }
 
 fn is_lawful_job(job: Job, task: Task) -> bool
-    ensures { λ r. ⌜ r ≡ isLawfulJob (taskOf task) (jobOf job) ⌝ }
+    ensures { λ r. ⌜ r ≡ isLawfulJob (asTask task) (jobOf job) ⌝ }
 {
     if task.gap < job.since {
         return false;
@@ -128,7 +130,7 @@ pub fn early(entries: [Job; Table::TASKS], table: Table, set: u32) -> Refusal
     let n = table.tasks;
     let mut i: usize = 0;
     while i < Table::TASKS {
-        if is_early(jobs::is_in(set, i), n <= i, entries[i], table.task[i]) {
+        if is_early(one::is_in(set, i), n <= i, entries[i], table.task[i]) {
             return Refusal {
                 number: Refusal::EARLY,
                 place: i,

@@ -2,23 +2,14 @@
 ghost use mathlib.Core.Path.{_≡_};
 ghost use Rattle.runner.specs.State.{emptyState, freshAnswer};
 ghost use Rattle.runner.specs.Step.{stepAnswer};
+use jobs::Job;
+use jobs::rules;
 use table::Refusal;
 use table::Table;
-use table::judge;
 
-mod jobs;
 mod lawful;
 mod places;
-mod rules;
 mod steps;
-
-// Ticks since the last release, work that remains, ticks left to the deadline.
-#[repr(C)]
-pub struct Job {
-    pub since: u16,
-    pub remaining: u16,
-    pub left: u16,
-}
 
 // A location, how many of its ticks are done, and one job for each task; the entries past the tasks are 0.
 #[repr(C)]
@@ -63,7 +54,7 @@ impl State {
     pub fn fresh(table: Table) -> FreshAnswer
         ensures { λ r. ⌜ r ≡ freshAnswer table ⌝ }
     {
-        let refusal = judge(table);
+        let refusal = judge::judge(table);
         if refusal.number != Refusal::NONE {
             return FreshAnswer {
                 refusal: refusal,

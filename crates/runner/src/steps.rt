@@ -8,17 +8,16 @@ use crate::StepAnswer;
 use crate::lawful;
 use crate::places;
 use crate::places::Place;
-use crate::rules;
+use jobs::rules;
 use table::Refusal;
 use table::Table;
-use table::judge;
 use table::paths;
 
 // The table's refusal, then STATE, then EARLY.
 pub fn refusal(state: State, table: Table, set: u32) -> Refusal
     ensures { λ r. ⌜ r ≡ stepRefusal table state set ⌝ }
 {
-    let judged = judge(table);
+    let judged = judge::judge(table);
     if judged.number != Refusal::NONE {
         return judged;
     }

@@ -4,6 +4,7 @@ use Prim.Native.Nat.{ℕ, _<_}
 use lib.ListN.{getD, replicate}
 use Rattle.theory.specs.Tree.{Tree}
 use Rattle.theory.specs.Task.{Tasks}
+use Rattle.theory.specs.Task as theory
 use Rattle.table.specs.declared.Location.{Location}
 use Rattle.table.specs.declared.Task.{Task}
 use Rattle.table.specs.declared.Table.{Table}
@@ -48,9 +49,9 @@ treeOf t = record {
   high = λ v. locationAt t v .high;
 }
 
--- The tasks that a table means.
+-- The task that an entry means, and the tasks that a table means.
+abbrev pub asTask : Task → theory.Task
+asTask k = record { queue = k .queue; work = k .work; deadline = k .deadline; gap = k .gap }
+
 abbrev pub tasksOf : Table → Tasks
-tasksOf t = record {
-  number = t .tasks;
-  task = λ i. record { queue = taskAt t i .queue; work = taskAt t i .work; deadline = taskAt t i .deadline; gap = taskAt t i .gap };
-}
+tasksOf t = record { number = t .tasks; task = λ i. asTask (taskAt t i) }

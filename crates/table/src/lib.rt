@@ -1,12 +1,11 @@
-// A table by value, in any condition, and its judge (docs/RULES.md, Tables; Refusals).
+// A table by value, in any condition, a refusal, and what is read off a table's columns (docs/RULES.md, Tables).
 ghost use mathlib.Core.Path.{_≡_};
 ghost use Rattle.table.specs.Table.{emptyTable};
-ghost use Rattle.table.specs.Rules.{fine, judged};
+ghost use Rattle.table.specs.Rules.{fine};
 
 pub mod columns;
 pub mod guards;
 pub mod paths;
-mod rules;
 
 #[repr(C)]
 pub struct Location {
@@ -141,31 +140,4 @@ impl Refusal {
             place: 0,
         }
     }
-}
-
-// The refusal with the lowest number that applies, at its lowest place; NONE for a well-formed table.
-pub fn judge(table: Table) -> Refusal
-    ensures { λ r. ⌜ r ≡ judged table ⌝ }
-{
-    if rules::breaks_count(table) {
-        return Refusal {
-            number: Refusal::COUNT,
-            place: 0,
-        };
-    }
-    if rules::breaks_header(table) {
-        return Refusal {
-            number: Refusal::VALUE,
-            place: 0,
-        };
-    }
-    let value = rules::judge_value(table);
-    if value.number != Refusal::NONE {
-        return value;
-    }
-    let tree = rules::judge_tree(table);
-    if tree.number != Refusal::NONE {
-        return tree;
-    }
-    rules::judge_task(table)
 }

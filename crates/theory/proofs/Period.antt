@@ -20,6 +20,9 @@ use Rattle.theory.proofs.Above.{path, upto-count}
 pub cycle-least-unique : (t : Tree) (p : ℕ → Bool) (m n : ℕ) → CycleLeast t p m → CycleLeast t p n → m ≡ n
 cycle-least-unique t p m n a b = omega (arith, a .lower (b .leaf) (b .is-leaf), b .lower (a .leaf) (a .is-leaf), a .met, b .met)
 
+pub cycle-most-unique : (t : Tree) (p : ℕ → Bool) (m n : ℕ) → CycleMost t p m → CycleMost t p n → m ≡ n
+cycle-most-unique t p m n a b = omega (arith, a .upper (b .leaf) (b .is-leaf), b .upper (a .leaf) (a .is-leaf), a .met, b .met)
+
 module _ (t : Tree) (formed : Formed t) (p : ℕ → Bool) where
   -- a whole path's count, by its leaf
   pub whole-count : (v : ℕ) → Leaf t v → count p (path t v) 0 (t .period) ≡ upto t (own t p) v
@@ -74,12 +77,6 @@ module _ (t : Tree) (formed : Formed t) (p : ℕ → Bool) where
 module _ (t : Tree) (formed : Formed t) (p : ℕ → Bool) where
   pub cycle-most : CycleMost t p (cycleMost (system t) p)
   cycle-most = cycle-most-of-least t formed p (cycleLeast (system t) (others p)) (cycle-least t formed (others p))
-
-  pub cycle-most-unique : (m n : ℕ) → CycleMost t p m → CycleMost t p n → m ≡ n
-  cycle-most-unique m n a b =
-      let (x, k) = cycle-least-of-most t formed p m a in
-      let (y, l) = cycle-least-of-most t formed p n b in
-      omega (arith, cycle-least-unique t (others p) (t .period - m) (t .period - n) x y)
 
   -- most(t + P) = most(t) + cycle most, from t = P on
   pub most-law : (w a b c : ℕ) → t .period ≤ w → Most (grants t) p w a → Most (grants t) p (w + t .period) b → CycleMost t p c → b ≡ a + c

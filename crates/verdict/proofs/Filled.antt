@@ -14,8 +14,9 @@ use Rattle.table.specs.Rules.{WellFormed}
 use Rattle.table.specs.Ranged.{Ranged}
 use Rattle.bounds.specs.declared.CycleAnswer.{CycleAnswer}
 use Rattle.bounds.specs.Questions.{queueRefusal, fillRefusal, CycleAnswers, Fills}
+use Rattle.bounds.proofs.Refused.{Passes, queue-asked}
 use Rattle.verdict.specs.Parts.{Supplied}
-use Rattle.verdict.proofs.InOrder.{Passes, asked-formed, fill-asked}
+use Rattle.verdict.proofs.InOrder.{fill-asked}
 
 -- what is known once the slice is filled, or not
 pub record Prepared (t : Table) (q : ℕ) (filled : List ℕ) (r : Refusal) : Type 0 where
@@ -34,7 +35,7 @@ prepared t q before after r range room fills =
       asked = e;
       refuses = λ h p. h (n ∙ p);
       passes = λ p. sym n ∙ p;
-      formed = λ p. asked-formed t q range (sym n ∙ p);
+      formed = λ p. queue-asked t range q (sym n ∙ p) .well-formed;
       supplied = λ p a says. record { least = fills .least p; cycle-least = says .least (sym n ∙ p) };
-      cycle-least = λ p. cycle-least (treeOf t) (asked-formed t q range p .formed) (is q);
+      cycle-least = λ p. cycle-least (treeOf t) (queue-asked t range q p .well-formed .formed) (is q);
     }

@@ -2,66 +2,35 @@
 -- and a slice of 2,048 entries has room. Assumes nothing.
 use mathlib.Core.Path.{_≡_, refl, sym, ap, _∙_}
 use mathlib.Core.Bool.{Bool, true, false, not}
-use mathlib.Core.Logic.{inl, inr}
-use Prim.Native.Nat.{ℕ, zero, suc, _*_, _≤_, _<_}
+use Prim.Native.Nat.{ℕ, _*_, _≤_, _<_}
 use native.Mathlib.Omega.{arith}
-use lib.Dec.{T, T-not, not-T, leb, le→leb, leb→le, ltb, lt→ltb, eqb, eqb→eq}
+use lib.Dec.{T, T-not, not-T, leb, le→leb, leb→le, ltb, lt→ltb, eqb}
 use lib.Arith.{le→nltb}
-use Rattle.laws.proofs.Test.{either, and-left, and-right, and-both, eqb-of, neqb-of}
+use Rattle.laws.proofs.Test.{and-left, and-right, and-both, eqb-of, neqb-of}
 use Rattle.theory.specs.Tree.{grants}
 use Rattle.theory.specs.Verdict.{Meets, Short}
 use Rattle.theory.specs.Search.{lcmOf}
 use Rattle.table.specs.declared.Table.{Table}
 use Rattle.table.specs.declared.Refusal.{Refusal}
 use Rattle.table.specs.Table.{treeOf, tasksOf}
-use Rattle.table.specs.Rules.{within, refusal, fine, judged, WellFormed}
+use Rattle.table.specs.Rules.{within, refusal, fine, judged}
 use Rattle.table.specs.Ranged.{Ranged}
-use Rattle.table.proofs.Unbroken.{refused-number}
-use Rattle.table.proofs.WellFormed.{judged-well-formed}
 use Rattle.bounds.specs.declared.TicksAnswer.{TicksAnswer}
 use Rattle.bounds.specs.Questions.{refuseIf, also, queueRefusal, fillRefusal, Answer}
+use Rattle.bounds.proofs.Refused.{Passes, passes-or, also-refused, also-passed, also-none, queue-asked}
 use Rattle.verdict.specs.declared.VerdictAnswer.{VerdictAnswer}
-use Rattle.verdict.specs.Questions.{horizonRefusal, amountRefusal, waitRefusal, refusedAnswer, meetsAnswer, shortAnswer, Verdict, VerdictAnswers}
+use Rattle.verdict.specs.Questions.{horizonRefusal, amountRefusal, waitRefusal, Verdict, VerdictAnswers}
+use Rattle.verdict.specs.Parts.{refusedAnswer, meetsAnswer, shortAnswer}
 
 -- ---- one after the other
 
--- nothing is refused
-abbrev pub Passes : Refusal → Type 0
-Passes r = r .number ≡ 0
-
-pub also-stands : (r : Refusal) (broken : Bool) (n : ℕ) → ¬ Passes r → also r broken n ≡ r
-also-stands r broken n h = go (r .number) (r .place) h
-  where
-    go : (m p : ℕ) → ¬ (m ≡ 0) → also (refusal m p) broken n ≡ refusal m p
-    go zero p h = absurd (h refl)
-    go (suc m) p h = refl
-
-also-next : (r : Refusal) (broken : Bool) (n : ℕ) → Passes r → also r broken n ≡ refuseIf broken n
-also-next r broken n e = go (r .number) (r .place) e
-  where
-    go : (m p : ℕ) → m ≡ 0 → also (refusal m p) broken n ≡ refuseIf broken n
-    go zero p e = refl
-    go (suc m) p e = absurd (omega arith)
-
-pub also-broken : (r : Refusal) (broken : Bool) (n : ℕ) → Passes r → T broken → also r broken n ≡ refusal n 0
-also-broken r true n e y = also-next r true n e
+also-broken : (r : Refusal) (broken : Bool) (n : ℕ) → Passes r → T broken → also r broken n ≡ refusal n 0
+also-broken r true n e y = also-passed r true n e
 also-broken r false n e y = absurd y
 
-pub also-kept : (r : Refusal) (broken : Bool) (n : ℕ) → Passes r → T (not broken) → also r broken n ≡ fine
+also-kept : (r : Refusal) (broken : Bool) (n : ℕ) → Passes r → T (not broken) → also r broken n ≡ fine
 also-kept r true n e y = absurd y
-also-kept r false n e y = also-next r false n e
-
--- what passes has passed both
-pub also-passed : (r : Refusal) (broken : Bool) (n : ℕ) → 0 < n → Passes (also r broken n) → Passes r × T (not broken)
-also-passed r broken n p e = go (r .number) (r .place) broken e
-  where
-    go : (m k : ℕ) (b : Bool) → Passes (also (refusal m k) b n) → (m ≡ 0) × T (not b)
-    go (suc m) k b e = absurd (omega arith)
-    go zero k true e = absurd (omega arith)
-    go zero k false e = (refl, tt)
-
-pub passes-fine : (r : Refusal) (broken : Bool) (n : ℕ) → 0 < n → Passes (also r broken n) → also r broken n ≡ fine
-passes-fine r broken n p e = let (a, b) = also-passed r broken n p e in also-kept r broken n a b
+also-kept r false n e y = also-passed r false n e
 
 -- ---- tests
 
@@ -79,25 +48,20 @@ within-high a b x l = not-T (within a b x) (λ y. absurd (omega (arith, leb→le
 module _ (t : Table) (q : ℕ) where
   pub asked-fine : Passes (queueRefusal t q) → queueRefusal t q ≡ fine
   unfolding queueRefusal
-  asked-fine e = passes-fine (judged t) (not (within 1 (t .queues) q)) 10 (omega arith) e
+  asked-fine e =
+      let broken = not (within 1 (t .queues) q) in
+      let (p, b) = also-none (judged t) broken 9 e in
+      also-passed (judged t) broken 10 p ∙ ap (λ b. refuseIf b 10) b
 
-  module _ (range : Ranged t) where
-    pub asked-formed : Passes (queueRefusal t q) → WellFormed t
-    unfolding queueRefusal
-    asked-formed e =
-        judged-well-formed t (λ v l. omega (arith, range .location v .high))
-        (refused-number t (also-passed (judged t) (not (within 1 (t .queues) q)) 10 (omega arith) e .0))
-
-    -- there is room for two periods
-    pub fill-asked : fillRefusal t q 2048 ≡ queueRefusal t q
-    unfolding fillRefusal
-    fill-asked = elim (either (eqb (queueRefusal t q .number) 0)) [
-      | inl y ↦
-          let e = eqb→eq (queueRefusal t q .number) 0 y in
-          let P = asked-formed e .period in
-          also-kept (queueRefusal t q) (ltb 2048 (2 * t .period)) 16 e (le→nltb 2048 (2 * t .period) (omega arith)) ∙ sym (asked-fine e)
-      | inr n ↦ also-stands (queueRefusal t q) (ltb 2048 (2 * t .period)) 16 (λ e. T-not (eqb (queueRefusal t q .number) 0) n (eqb-of (queueRefusal t q .number) 0 e))
-    ]
+  -- there is room for two periods
+  pub fill-asked : Ranged t → fillRefusal t q 2048 ≡ queueRefusal t q
+  unfolding fillRefusal
+  fill-asked range =
+      let asked = queueRefusal t q in
+      let broken = ltb 2048 (2 * t .period) in
+      passes-or asked (also asked broken 16 ≡ asked)
+      (λ e. also-kept asked broken 16 e (le→nltb 2048 (2 * t .period) (omega (arith, queue-asked t range q e .well-formed .period))) ∙ sym (asked-fine e))
+      (λ n. also-refused asked broken 16 n)
 
 -- ---- answers
 
@@ -144,7 +108,7 @@ module _ (t : Table) (q : ℕ) where
 
   pub horizon-asked : ¬ Passes (queueRefusal t q) → horizonRefusal t q ≡ queueRefusal t q
   unfolding horizonRefusal
-  horizon-asked n = also-stands (queueRefusal t q) (ltb 1000000 multiple) 13 n
+  horizon-asked n = also-refused (queueRefusal t q) (ltb 1000000 multiple) 13 n
 
   pub horizon-past : Passes (queueRefusal t q) → 1000000 < multiple → horizonRefusal t q ≡ refusal 13 0
   unfolding horizonRefusal
@@ -166,14 +130,14 @@ module _ (t : Table) (q c cycle : ℕ) where
   pub wait-asked : ¬ Passes asked → waitRefusal t q c cycle ≡ asked
   unfolding waitRefusal amountRefusal
   wait-asked n =
-      let e = also-stands asked outside 11 n in
-      also-stands (also asked outside 11) (eqb cycle 0) 12 (λ p. n (ap (λ (r : Refusal). r .number) (sym e) ∙ p)) ∙ e
+      let e = also-refused asked outside 11 n in
+      also-refused (also asked outside 11) (eqb cycle 0) 12 (λ p. n (ap (λ (r : Refusal). r .number) (sym e) ∙ p)) ∙ e
 
   pub wait-amount : Passes asked → T outside → waitRefusal t q c cycle ≡ refusal 11 0
   unfolding waitRefusal amountRefusal
   wait-amount p y =
       let e = also-broken asked outside 11 p y in
-      also-stands (also asked outside 11) (eqb cycle 0) 12 (refuses _ 11 (omega arith) e) ∙ e
+      also-refused (also asked outside 11) (eqb cycle 0) 12 (refuses _ 11 (omega arith) e) ∙ e
 
   amount-passes : Passes asked → 1 ≤ c → c ≤ 65535 → Passes (also asked outside 11)
   amount-passes p l m = ap (λ (r : Refusal). r .number) (also-kept asked outside 11 p (within-yes 1 65535 c l m))

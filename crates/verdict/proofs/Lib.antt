@@ -1,7 +1,4 @@
 -- The laws behind the questions, in reading order.
-pub mod BetweenDeadlines
-pub mod Multiples
-pub mod Columns
 pub mod Supply
 pub mod Swept
 pub mod LongestWait

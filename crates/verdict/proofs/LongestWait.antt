@@ -1,6 +1,6 @@
 -- The wait from a filling: up to 2P the first entry that reaches the ticks, and from one period on a period more for each cycle least
 -- more. Assumes nothing.
-use mathlib.Core.Path.{_≡_, ap}
+use mathlib.Core.Path.{_≡_, sym, ap, subst₂}
 use mathlib.Core.List.{List}
 use mathlib.Core.Logic.{_⊎_, inl, inr}
 use Prim.Native.Nat.{ℕ, zero, suc, _+_, _*_, _≤_, _<_}
@@ -66,16 +66,16 @@ module _ (t : Table) (formed : WellFormed t) (q : ℕ) (filled : List ℕ) (cycl
     wait-far h zero =
         let e : c + 0 * cycle ≡ c = omega arith in
         let f : r + 0 * P ≡ r = omega arith in
-        rw (e, f) wait-near
+        subst₂ (WaitOf t q) (sym e) (sym f) wait-near
     wait-far h (suc k) =
         let e : c + suc k * cycle ≡ c + k * cycle + cycleLeast (system (treeOf t)) (is q) = omega (arith, cycle-is t formed q filled cycle known) in
         let f : r + suc k * P ≡ r + k * P + P = omega arith in
-        rw (e, f) (wait-more (treeOf t) (formed .formed) (is q) (c + k * cycle) (r + k * P) (omega (arith, after-period h)) (wait-far h k))
+        subst₂ (WaitOf t q) (sym e) (sym f) (wait-more (treeOf t) (formed .formed) (is q) (c + k * cycle) (r + k * P) (omega (arith, after-period h)) (wait-far h k))
 
     -- with k cycles more, if none or if more was asked than one period has
     pub wait-left : (k : ℕ) → (k ≡ 0) ⊎ (least t q P < c) → WaitOf t q (c + k * cycle) (r + k * P)
     wait-left k (inl z) =
         let e : c + k * cycle ≡ c = rw z (omega arith) in
         let f : r + k * P ≡ r = rw z (omega arith) in
-        rw (e, f) wait-near
+        subst₂ (WaitOf t q) (sym e) (sym f) wait-near
     wait-left k (inr h) = wait-far h k

@@ -1,19 +1,18 @@
--- The search from deadline to deadline: the columns hold each task's next deadline, no window passed is short, and up to the next
--- deadline demand stays while least never falls. So the first short deadline is the shortest short window, and where the next
--- deadline is past the common multiple the queue meets. Assumes nothing.
-use mathlib.Core.Path.{_≡_, sym, ap, _∙_}
-use mathlib.Core.Bool.{not}
+-- The search from block to block: no window passed is short, and the demand of every later one is what is passed and what the next
+-- deadlines bring. Where nothing is due demand stays while least never falls. So the first short deadline is the shortest short
+-- window, and where the next deadline is past the common multiple the queue meets. Assumes nothing.
+use mathlib.Core.Path.{_≡_, sym, ap}
 use mathlib.Core.List.{List}
 use mathlib.Core.Logic.{inl, inr}
-use Prim.Native.Nat.{ℕ, _+_, _*_, _≤_, _<_, zero-le}
-use native.Mathlib.Nat.{zero-add, le-refl, mul-le-mul-right}
+use Prim.Native.Nat.{ℕ, suc, _+_, _-_, _*_, _≤_, _<_}
+use native.Mathlib.Nat.{zero-add, mul-le-mul-right}
+use native.Mathlib.Numerals.{add-one}
 use native.Mathlib.Omega.{arith}
-use lib.Dec.{T, eqb}
-use lib.ListN.{length}
-use Rattle.laws.specs.Test.{pick, any}
-use Rattle.laws.proofs.Test.{either, le-or-lt, neqb-of, pick-yes, pick-no, pick-le}
-use Rattle.laws.proofs.Sum.{sum-same, sum-le, sum-const}
-use Rattle.laws.proofs.Minimum.{minimum-le, minimum-cases}
+use lib.ListN.{length, replicate}
+use Rattle.laws.specs.Test.{pick}
+use Rattle.laws.specs.Sum.{sum}
+use Rattle.laws.proofs.Test.{le-or-lt, last-or-before, pick-le}
+use Rattle.laws.proofs.Sum.{sum-le, sum-const, sum-last₀}
 use Rattle.theory.specs.Tree.{grants}
 use Rattle.theory.specs.Task.{Tasks, LawfulTask, belongs, Each, demandOf, demand}
 use Rattle.theory.specs.Verdict.{Meets, Short}
@@ -22,27 +21,26 @@ use Rattle.theory.proofs.Demand.{lawful-gap, demand-zero}
 use Rattle.theory.proofs.Multiple.{lcmOf-is}
 use Rattle.theory.proofs.Verdict.{meets-far}
 use Rattle.table.specs.declared.Table.{Table}
-use Rattle.table.specs.Table.{taskAt, treeOf, tasksOf}
+use Rattle.table.specs.Table.{treeOf, tasksOf}
 use Rattle.table.specs.Rules.{WellFormed}
 use Rattle.table.specs.Columns.{entry}
-use Rattle.verdict.specs.declared.deadlines.Step.{Step}
-use Rattle.verdict.specs.Parts.{far, LaidOut, moved, Advances}
-use Rattle.verdict.proofs.BetweenDeadlines.{NextDeadline, first-deadline, demandOf-le, ifDue, demand-between, next-ahead, demand-next}
+use Rattle.demand.specs.Ahead.{far, ahead, LaidOut, entered, Advances}
+use Rattle.demand.proofs.NextDeadlines.{demandOf-le, ahead-none}
+use Rattle.demand.proofs.Blocks.{entered-zeros, entered-at, entered-all}
 use Rattle.verdict.proofs.Supply.{least, least-is, least-said, least-rises}
 
--- each of the queue's tasks has its next deadline after the window, the others none
-pub record Ahead (t : Table) (q : ℕ) (dues : List ℕ) (window : ℕ) : Type 0 where
+-- every window before `next` is passed, and `next` is no later than any deadline to come
+pub record Swept (t : Table) (q : ℕ) (gaps works : List ℕ) (n : ℕ) (dues : List ℕ) (demanded next : ℕ) : Type 0 where
+  pub some : 1 ≤ next
   pub long : length dues ≡ 32
-  pub own : Each (tasksOf t) q (λ i. NextDeadline (tasksOf t .task i) window (entry dues i))
-  pub others : (i : ℕ) → i < t .tasks → T (not (belongs (tasksOf t) q i)) → entry dues i ≡ far
+  pub lower : (i : ℕ) → i < n → next ≤ entry dues i
+  pub demands : (w : ℕ) → next ≤ suc w → demand (tasksOf t) q w ≡ demanded + ahead dues gaps works n w
+  pub kept : (w : ℕ) → w < next → demand (tasksOf t) q w ≤ least t q w
 
--- up to the window none is short, and the next deadline is after it
-pub record Swept (t : Table) (q : ℕ) (dues : List ℕ) (window demanded next : ℕ) : Type 0 where
-  pub ahead : Ahead t q dues window
-  pub lower : Each (tasksOf t) q (λ i. next ≤ entry dues i)
-  pub later : window < next
-  pub demands : demanded ≡ demand (tasksOf t) q window
-  pub kept : (w : ℕ) → w ≤ window → demand (tasksOf t) q w ≤ least t q w
+-- so far within a block that begins at s: its first i windows are passed
+pub record Scanned (t : Table) (q : ℕ) (gaps works : List ℕ) (n : ℕ) (dues block : List ℕ) (s demanded i : ℕ) : Type 0 where
+  pub demands : (w : ℕ) → s + i ≤ suc w → demand (tasksOf t) q w + sum (entry block) 0 i ≡ demanded + (entered block s w + ahead dues gaps works n w)
+  pub kept : (w : ℕ) → w < s + i → demand (tasksOf t) q w ≤ least t q w
 
 module _ (t : Table) (formed : WellFormed t) (q : ℕ) where
   abbrev ts : Tasks
@@ -62,123 +60,94 @@ module _ (t : Table) (formed : WellFormed t) (q : ℕ) where
         mul-le-mul-right {m = t .tasks} {n = 32} w (formed .tasks),
       )
 
-  -- ---- the columns
-
-  ahead-first : (dues gaps works : List ℕ) → LaidOut t q dues gaps works → Ahead t q dues 0
-  ahead-first dues gaps works h = record {
-    long = h .long;
-    own = λ i l y. rw (h .deadline i l ∙ pick-yes (belongs ts q i) (taskAt t i .deadline) far y) (first-deadline (ts .task i) (lawful i l y));
-    others = λ i l n. h .deadline i l ∙ pick-no (belongs ts q i) (taskAt t i .deadline) far n;
-  }
-
-  module _ (first gaps works : List ℕ) (laid : LaidOut t q first gaps works) (dues after : List ℕ) (v w : ℕ) (r : Step) (h : Ahead t q dues v) (later : v ≤ w) (near : w ≤ 1000000) (lower : Each ts q (λ i. w ≤ entry dues i)) (moves : Advances (t .tasks) w gaps works dues after r) where
-    moved-own : (i : ℕ) → i < t .tasks → entry after i ≡ entry dues i + ifDue (entry dues i) w (taskAt t i .gap)
-    moved-own i l = moves .each i l ∙ ap (λ x. entry dues i + ifDue (entry dues i) w x) (laid .gap i l)
-
-    not-due : (i : ℕ) → i < t .tasks → T (not (belongs ts q i)) → T (not (eqb (entry dues i) w))
-    not-due i l n = neqb-of (entry dues i) w (omega (arith, h .others i l n))
-
-    ahead-next : Ahead t q after w
-    ahead-next = record {
-      long = moves .long;
-      own = λ i l y. rw (moved-own i l) (next-ahead ts q lawful (entry dues) v (h .own) w later lower i l y);
-      others = λ i l n. moved-own i l ∙ omega (arith, pick-no (eqb (entry dues i) w) (taskAt t i .gap) 0 (not-due i l n), h .others i l n);
+  module _ (gaps works : List ℕ) (n : ℕ) where
+    pub swept-first : (dues : List ℕ) → LaidOut t q dues gaps works n → Swept t q gaps works n dues 0 1
+    swept-first dues laid = record {
+      some = omega arith;
+      long = laid .long;
+      lower = λ i l. omega (arith, laid .lawful i l);
+      demands = λ w l. omega (arith, laid .demands w);
+      kept = λ w l. omega (arith, ap (demand ts q) {x = w} {y = 0} (omega arith), demand-zero ts q lawful);
     }
 
-    -- the work that was due is what demand grows by
-    work-due : demand ts q w ≡ demand ts q v + r .work
-    work-due =
-        demand-next ts q lawful (entry dues) v (h .own) w later lower
-        ∙ ap (λ x. demand ts q v + x)
-        (sym
-        (moves .work
-        ∙ sum-same (λ i. ifDue (entry dues i) w (entry works i)) (λ i. pick (belongs ts q i) (ifDue (entry dues i) w (taskAt t i .work)) 0) 0 0 (t .tasks)
-        (λ i l. rw (zero-add i) (same i l))))
-      where
-        same : (i : ℕ) → i < t .tasks → ifDue (entry dues i) w (entry works i) ≡ pick (belongs ts q i) (ifDue (entry dues i) w (taskAt t i .work)) 0
-        same i l = elim (either (belongs ts q i)) [
-          | inl y ↦ ap (ifDue (entry dues i) w) (laid .work i l) ∙ sym (pick-yes (belongs ts q i) _ 0 y)
-          | inr n ↦ pick-no (eqb (entry dues i) w) (entry works i) 0 (not-due i l n) ∙ sym (pick-no (belongs ts q i) _ 0 n)
-        ]
+    module _ (dues : List ℕ) (demanded next : ℕ) (s : Swept t q gaps works n dues demanded next) where
+      pub meets-past : lcmOf ts q (t .period) < next → Meets (grants (treeOf t)) ts q
+      meets-past l =
+          let L = lcmOf-is ts q (t .period) (formed .period .0) (λ i m y. lawful-gap (ts .task i) (lawful i m y)) in
+          meets-far (grants (treeOf t)) ts q lawful (λ w. (least t q w, least-is t formed q w)) (lcmOf ts q (t .period)) (L .some) (L .of-gaps)
+          (λ w m a b x. omega (arith, s .kept w (omega arith), least-said t formed q w m x))
 
-    next-lower : Each ts q (λ i. r .next ≤ entry after i)
-    next-lower i l y = omega (arith, moves .next, moves .each i l, minimum-le any (moved dues gaps w) far (t .tasks) i l tt)
+      -- what is due in the block fits
+      pub block-small : next ≤ 1000000 → (w : ℕ) → w < next + 64 → entered (replicate 64 0) next w + ahead dues gaps works n w ≤ far
+      block-small l w m = elim (le-or-lt next w) [
+        | inl h ↦ omega (arith, entered-zeros 64 next w, s .demands w (omega arith), demand-few w)
+        | inr h ↦ omega (arith, entered-zeros 64 next w, ahead-none dues gaps works n w (λ i k. omega (arith, s .lower i k)))
+      ]
 
-    next-later : w < r .next
-    next-later = elim (minimum-cases any (moved dues gaps w) far (t .tasks)) [
-      | inl e ↦ omega (arith, moves .next, e)
-      | inr x ↦
-          let (i, l, z, e) = x in
-          elim (either (belongs ts q i)) [
-            | inl y ↦ omega (arith, moves .next, moves .each i l, e, ahead-next .own i l y .after)
-            | inr n ↦ omega (arith, moves .next, moves .each i l, e, ahead-next .others i l n)
-          ]
-    ]
+    -- ---- within a block
 
-  -- ---- the search
-
-  module _ (dues : List ℕ) (window demanded next : ℕ) (s : Swept t q dues window demanded next) where
-    -- none is short before the next deadline
-    kept-before : (w : ℕ) → w < next → demand ts q w ≤ least t q w
-    kept-before w l = elim (le-or-lt w window) [
-      | inl h ↦ s .kept w h
-      | inr h ↦ omega (
-        arith,
-        demand-between ts q lawful (entry dues) window (s .ahead .own) w (omega arith) (λ i m y. omega (arith, s .lower i m y)),
-        s .kept window (le-refl window),
-        least-rises t formed q window w (omega arith),
-      )
-    ]
-
-    pub short-next : (demand′ supply : ℕ) → demand′ ≡ demand ts q next → supply ≡ least t q next → supply < demand′ → Short (grants (treeOf t)) ts q next demand′ supply
-    short-next demand′ supply d e l = record {
-      some = omega (arith, s .later);
-      demands = sym d;
-      supplies = rw e (least-is t formed q next);
-      exceeds = l;
-      shortest = λ w m a b x. omega (arith, kept-before w b, least-said t formed q w m x);
-    }
-
-    pub meets-past : lcmOf ts q (t .period) < next → Meets (grants (treeOf t)) ts q
-    meets-past l =
-        let L = lcmOf-is ts q (t .period) (formed .period .0) (λ i m y. lawful-gap (ts .task i) (lawful i m y)) in
-        meets-far (grants (treeOf t)) ts q lawful (λ w. (least t q w, least-is t formed q w)) (lcmOf ts q (t .period)) (L .some) (L .of-gaps)
-        (λ w m a b x. omega (arith, kept-before w (omega arith), least-said t formed q w m x))
-
-  kept-first : (w : ℕ) → w ≤ 0 → demand ts q w ≤ least t q w
-  kept-first w l = omega (arith, ap (demand ts q) {x = w} {y = 0} (omega arith), demand-zero ts q lawful)
-
-  module _ (first gaps works : List ℕ) (laid : LaidOut t q first gaps works) where
-    pub swept-first : (after : List ℕ) (r : Step) → Advances (t .tasks) 0 gaps works first after r → Swept t q after 0 0 (r .next)
-    swept-first after r moves =
-        let h = ahead-first first gaps works laid in
-        let low : Each ts q (λ i. 0 ≤ entry first i) = λ i l y. zero-le in
-        record {
-          ahead = ahead-next first gaps works laid first after 0 0 r h (le-refl 0) zero-le low moves;
-          lower = next-lower first gaps works laid first after 0 0 r h (le-refl 0) zero-le low moves;
-          later = next-later first gaps works laid first after 0 0 r h (le-refl 0) zero-le low moves;
-          demands = sym (demand-zero ts q lawful);
-          kept = kept-first;
-        }
-
-    module _ (dues : List ℕ) (window demanded next : ℕ) (s : Swept t q dues window demanded next) (after : List ℕ) (r : Step) (near : next ≤ 1000000) (moves : Advances (t .tasks) next gaps works dues after r) where
-      soon : window ≤ next
-      soon = omega (arith, s .later)
-
-      pub demand-here : demanded + r .work ≡ demand ts q next
-      demand-here = omega (arith, s .demands, work-due first gaps works laid dues after window next r (s .ahead) soon near (s .lower) moves)
-
-      pub next-further : next < r .next
-      next-further = next-later first gaps works laid dues after window next r (s .ahead) soon near (s .lower) moves
-
-      pub swept-more : demanded + r .work ≤ least t q next → Swept t q after next (demanded + r .work) (r .next)
-      swept-more h = record {
-        ahead = ahead-next first gaps works laid dues after window next r (s .ahead) soon near (s .lower) moves;
-        lower = next-lower first gaps works laid dues after window next r (s .ahead) soon near (s .lower) moves;
-        later = next-further;
-        demands = demand-here;
-        kept = λ w l. elim (le-or-lt next w) [
-          | inl g ↦ let e : w ≡ next = omega arith in rw e (omega (arith, demand-here))
-          | inr g ↦ kept-before dues window demanded next s w g
-        ];
+    module _ (dues dues′ block : List ℕ) (s later : ℕ) (moves : Advances n s gaps works dues dues′ (replicate 64 0) block later) where
+      pub scan-first : (demanded : ℕ) → Swept t q gaps works n dues demanded s → Scanned t q gaps works n dues′ block s demanded 0
+      unfolding sum
+      scan-first demanded h = record {
+        demands = λ w l. omega (arith, h .demands w (omega arith), moves .keeps w, entered-zeros 64 s w);
+        kept = λ w l. h .kept w (omega arith);
       }
+
+      -- past the block's deadlines nothing is ahead
+      clear : (w : ℕ) → w < s + 64 → ahead dues′ gaps works n w ≡ 0
+      clear w l = ahead-none dues′ gaps works n w (λ i m. omega (arith, moves .past, moves .lower i m))
+
+      module _ (demanded i : ℕ) (h : Scanned t q gaps works n dues′ block s demanded i) where
+        module _ (l : i < 64) where
+          pub demand-here : demanded + entry block i ≡ demand ts q (s + i)
+          demand-here = omega (arith, h .demands (s + i) (omega arith), entered-at block s i, clear (s + i) (omega arith))
+
+          -- without work the demand is that of the window before
+          pub demand-stays : 1 ≤ s → entry block i ≡ 0 → demanded + entry block i ≤ least t q (s + i)
+          demand-stays some e =
+              let w = s + i - 1 in
+              let before : entered block s w ≡ sum (entry block) 0 i = ap (sum (entry block) 0) {x = suc w - s} {y = i} (omega arith) in
+              omega (arith, h .demands w (omega arith), before, clear w (omega arith), h .kept w (omega arith), least-rises t formed q w (s + i) (omega arith))
+
+          pub short-here : (supply : ℕ) → 1 ≤ s → supply ≡ least t q (s + i) → supply < demanded + entry block i → Short (grants (treeOf t)) ts q (s + i) (demanded + entry block i) supply
+          short-here supply some e less = record {
+            some = omega arith;
+            demands = sym demand-here;
+            supplies = rw e (least-is t formed q (s + i));
+            exceeds = less;
+            shortest = λ w m a b x. omega (arith, h .kept w b, least-said t formed q w m x);
+          }
+
+          pub scan-more : demanded + entry block i ≤ least t q (s + i) → Scanned t q gaps works n dues′ block s (demanded + entry block i) (i + 1)
+          scan-more fits = record {
+            demands = λ w m. rw add-one (omega (arith, h .demands w (omega arith), sum-last₀ (entry block) i));
+            kept = λ w m. elim (last-or-before w (s + i) (omega arith)) [
+              | inl e ↦ rw e (omega (arith, demand-here))
+              | inr g ↦ h .kept w g
+            ];
+          }
+
+        -- to the next deadline
+        pub swept-more : 1 ≤ s → i ≡ 64 → Swept t q gaps works n dues′ demanded later
+        swept-more some e =
+            let after : (w : ℕ) → s + 64 ≤ suc w → demand ts q w ≡ demanded + ahead dues′ gaps works n w =
+            λ w l. omega (arith, h .demands w (omega arith), entered-all block s (moves .full) w l, ap (sum (entry block) 0) e) in
+            let end = s + 63 in
+            record {
+              some = omega (arith, moves .past);
+              long = moves .long;
+              lower = moves .lower;
+              demands = λ w l. after w (omega (arith, moves .past));
+              kept = λ w l. elim (le-or-lt (s + 64) w) [
+                | inl g ↦ omega (
+                  arith,
+                  after w (omega arith),
+                  ahead-none dues′ gaps works n w (λ j m. omega (arith, moves .lower j m)),
+                  after end (omega arith),
+                  h .kept end (omega arith),
+                  least-rises t formed q end w (omega arith),
+                )
+                | inr g ↦ h .kept w (omega arith)
+              ];
+            }

@@ -3,8 +3,6 @@ use mathlib.Core.Path.{_≡_, refl, sym, ap, subst, _∙_}
 use mathlib.Core.Bool.{Bool, true, false}
 use mathlib.Core.Logic.{_⊎_, inl, inr}
 use Prim.Native.Nat.{ℕ}
-use lib.Dec.{T-not, eqb, eqb→eq}
-use Rattle.laws.proofs.Test.{either, eqb-of}
 use Rattle.theory.specs.Grants.{is}
 use Rattle.theory.specs.Tree.{grants}
 use Rattle.theory.specs.Verdict.{Wait}
@@ -12,36 +10,23 @@ use Rattle.theory.proofs.Verdict.{not-both, short-unique}
 use Rattle.theory.proofs.Wait.{wait-unique}
 use Rattle.theory.proofs.Period.{cycle-least-unique}
 use Rattle.table.specs.declared.Table.{Table}
-use Rattle.table.specs.declared.Refusal.{Refusal}
 use Rattle.table.specs.Table.{treeOf, tasksOf}
 use Rattle.bounds.specs.declared.TicksAnswer.{TicksAnswer}
 use Rattle.bounds.specs.Questions.{queueRefusal, Answer}
+use Rattle.bounds.proofs.Refused.{passes-or}
+use Rattle.bounds.proofs.Unique.{answer-same}
 use Rattle.verdict.specs.declared.VerdictAnswer.{VerdictAnswer}
 use Rattle.verdict.specs.Questions.{horizonRefusal, waitRefusal, Zeros, Verdict, VerdictAnswers, WaitAnswer}
-use Rattle.verdict.proofs.InOrder.{Passes, wait-asked}
+use Rattle.verdict.proofs.InOrder.{wait-asked}
 use Rattle.verdict.proofs.demand.Reads as demand-reads
 use Rattle.verdict.proofs.verdict.Reads as verdict-reads
 use Rattle.verdict.proofs.wait.Reads as wait-reads
-
--- refused or not
-passes-or : (r : Refusal) (A : Type 0) → (Passes r → A) → (¬ Passes r → A) → A
-passes-or r A y n = elim (either (eqb (r .number) 0)) [
-  | inl t ↦ y (eqb→eq (r .number) 0 t)
-  | inr t ↦ n (λ e. T-not (eqb (r .number) 0) t (eqb-of (r .number) 0 e))
-]
 
 told : (b : Bool) → (b ≡ true) ⊎ (b ≡ false)
 told true = inl refl
 told false = inr refl
 
 -- ---- ticks
-
-module _ (r : Refusal) (A : ℕ → Type 0) (unique : (m n : ℕ) → A m → A n → m ≡ n) (a b : TicksAnswer) (x : Answer r A a) (y : Answer r A b) where
-  answer-same : a ≡ b
-  answer-same =
-      let e : a .refusal ≡ b .refusal = x .refusal ∙ sym (y .refusal) in
-      let f : a .ticks ≡ b .ticks = passes-or r (a .ticks ≡ b .ticks) (λ p. unique (a .ticks) (b .ticks) (x .says p) (y .says p)) (λ n. x .silent n ∙ sym (y .silent n)) in
-      λ i. record { refusal = e i; ticks = f i }
 
 pub demand-same : (κs : _) (a : _) (r r′ : _) (x x′ : _) → demand-reads.Post κs a r x → demand-reads.Post κs a r′ x′ → r ≡ r′
 demand-same κs a r r′ x x′ p q = answer-same _ _ (λ m n e f. sym e ∙ f) r r′ p q

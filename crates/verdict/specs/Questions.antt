@@ -11,7 +11,7 @@ use Rattle.theory.specs.Search.{lcmOf}
 use Rattle.table.specs.declared.Table.{Table}
 use Rattle.table.specs.declared.Refusal.{Refusal}
 use Rattle.table.specs.Table.{treeOf, tasksOf}
-use Rattle.table.specs.Rules.{within, fine}
+use Rattle.table.specs.Rules.{within}
 use Rattle.bounds.specs.declared.TicksAnswer.{TicksAnswer}
 use Rattle.bounds.specs.Questions.{also, queueRefusal, windowRefusal, Answer}
 use Rattle.verdict.specs.declared.VerdictAnswer.{VerdictAnswer}
@@ -34,15 +34,6 @@ waitRefusal t q c cycle = also (amountRefusal t q c) (eqb cycle 0) 12
 
 abbrev pub DemandAnswer : Table → ℕ → ℕ → TicksAnswer → Type 0
 DemandAnswer t q w = Answer (windowRefusal t q w) (λ m. demand (tasksOf t) q w ≡ m)
-
-abbrev pub refusedAnswer : Refusal → VerdictAnswer
-refusedAnswer r = record { refusal = r; meets = false; window = 0; demand = 0; supply = 0 }
-
-abbrev pub meetsAnswer : VerdictAnswer
-meetsAnswer = record { refusal = fine; meets = true; window = 0; demand = 0; supply = 0 }
-
-abbrev pub shortAnswer : ℕ → ℕ → ℕ → VerdictAnswer
-shortAnswer window demand supply = record { refusal = fine; meets = false; window = window; demand = demand; supply = supply }
 
 abbrev pub Zeros : VerdictAnswer → Type 0
 Zeros a = (a .window ≡ 0) × (a .demand ≡ 0) × (a .supply ≡ 0)

@@ -1,15 +1,15 @@
 // Demand, verdict and wait of a queue (docs/RULES.md, Demand, verdict and wait).
 ghost use mathlib.Core.Path.{_≡_};
 ghost use Rattle.table.specs.Rules.{refusal};
-ghost use Rattle.bounds.specs.Questions.{queueRefusal};
-ghost use Rattle.verdict.specs.Questions.{refusedAnswer, meetsAnswer, shortAnswer, DemandAnswer, VerdictAnswers, WaitAnswer};
+ghost use Rattle.verdict.specs.Questions.{DemandAnswer, VerdictAnswers, WaitAnswer};
+ghost use Rattle.verdict.specs.Parts.{refusedAnswer, meetsAnswer, shortAnswer};
 use bounds::TicksAnswer;
+use bounds::refusals;
+use demand::due;
+use demand::multiple;
 use table::Refusal;
 use table::Table;
 
-mod deadlines;
-mod due;
-mod multiple;
 mod search;
 mod waits;
 
@@ -24,9 +24,6 @@ pub struct VerdictAnswer {
 }
 
 impl VerdictAnswer {
-    // The largest multiple for which there is a verdict.
-    pub const LIMIT: u32 = 1_000_000;
-
     // Room for the filling of the longest period.
     pub const FILLING: usize = 2048;
 
@@ -73,9 +70,7 @@ impl VerdictAnswer {
     }
 }
 
-// The longest window and the most ticks that are asked about.
-const WINDOW: u32 = 2_000_000;
-
+// The most ticks that a wait is asked for.
 const TICKS: u32 = 65_535;
 
 fn refused(number: u8) -> Refusal
@@ -96,33 +91,13 @@ fn told(refusal: Refusal, ticks: u32) -> TicksAnswer
     }
 }
 
-// The table's refusal, then QUEUE.
-fn asked(table: Table, queue: u32) -> Refusal
-    ensures { λ r. ⌜ r ≡ queueRefusal table queue ⌝ }
-{
-    let judged = table::judge(table);
-    if judged.number != Refusal::NONE {
-        return judged;
-    }
-    if queue < 1 {
-        return refused(Refusal::QUEUE);
-    }
-    if due::number(table.queues) < queue {
-        return refused(Refusal::QUEUE);
-    }
-    judged
-}
-
 // The most work that can both be released and be due within a window.
 pub fn demand(table: Table, queue: u32, window: u32) -> TicksAnswer
     ensures { λ r. ⌜ DemandAnswer table queue window r ⌝ }
 {
-    let refusal = asked(table, queue);
+    let refusal = refusals::of_window(table, queue, window);
     if refusal.number != Refusal::NONE {
         return told(refusal, 0);
-    }
-    if WINDOW < window {
-        return told(refused(Refusal::AMOUNT), 0);
     }
     told(refusal, due::of_queue(table, queue, window))
 }
@@ -137,7 +112,7 @@ pub fn verdict(table: Table, queue: u32) -> VerdictAnswer
         return VerdictAnswer::refused(refusal);
     }
     let multiple = multiple::of_queue(table, queue);
-    if VerdictAnswer::LIMIT < multiple {
+    if multiple::LIMIT < multiple {
         return VerdictAnswer::refused(refused(Refusal::HORIZON));
     }
     let cycle = bounds::cycle(table, queue).least;

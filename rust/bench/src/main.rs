@@ -1,39 +1,78 @@
-//! Prints the library's times on the largest tables. Run `rt staticlib domvurtesz` first.
+//! Prints the library's times on the largest tables beside those of a plain Rust program of the same means,
+//! and the stack that its questions take. Run `rt staticlib domvurtesz` first.
 
-mod library;
+mod clock;
+mod corners;
+mod cycle;
+mod every_window;
+mod judge;
+mod questions;
+mod record;
+mod search;
 mod shapes;
+mod stack;
+mod steps;
 
-use std::hint::black_box;
-use std::time::Instant;
-
-const BATCHES: u32 = 40;
-const CALLS: u32 = 50;
+use domvurtesz::{Table, answers};
+use questions::{FILLING, LONGEST_MESSAGE, LONGEST_WINDOW, QUEUE, Times, state};
+use shapes::Shape;
+use stack::stack_of;
 
 fn main() {
-    println!("{:8} {:>10} {:>10} {:>10}", "shape", "judge µs", "read µs", "write µs");
-    for (name, table) in shapes::all() {
-        let mut record = vec![0; 2_048];
-        let length = lister::write(&table, &mut record).expect("the shape is well formed");
-        let linked = library::Table::from(&table);
-        assert_eq!(library::judge(linked).number, 0, "{name} is judged well formed");
-        let mut out = vec![0; length];
-        let judge = time(|| library::judge(black_box(linked)).number);
-        let read = time(|| library::read(black_box(&record[..length])).refusal.number);
-        let write = time(|| library::write(black_box(linked), &mut out).refusal.number);
-        assert_eq!(out, record[..length], "{name} is written as the lister writes it");
-        println!("{name:8} {judge:10.2} {read:10.2} {write:10.2}");
+    let shapes = shapes::all();
+    print_times(&shapes);
+    print_every_window(&shapes[0]);
+    print_stack(&shapes);
+}
+
+fn print_times(shapes: &[Shape]) {
+    println!(
+        "Processor time of one call in microseconds, library|plain Rust, judging included, best of many batches."
+    );
+    println!("P 1,024, 128 locations, 32 tasks, multiple 998,400; dense has a deadline at every tick.");
+    println!("A listing asks for cycle and verdict of sixteen queues with two tasks each.");
+    print!("{:17}", "");
+    shapes.iter().for_each(|(name, _)| print!(" {name:>15}"));
+    println!();
+    for (name, question) in questions::ALL {
+        print!("{name:17}");
+        for Times { library, plain } in shapes.iter().map(|(_, table)| question(table)) {
+            print!(" {:>7}|{:>7}", microseconds(library), microseconds(plain));
+        }
+        println!();
     }
 }
 
-/// The time of one call in microseconds, in the best of some batches.
-fn time(mut call: impl FnMut() -> u8) -> f64 {
-    let mut best = f64::INFINITY;
-    for _ in 0..BATCHES {
-        let began = Instant::now();
-        for _ in 0..CALLS {
-            black_box(call());
-        }
-        best = best.min(began.elapsed().as_secs_f64() * 1e6 / f64::from(CALLS));
-    }
-    best
+fn microseconds(time: f64) -> String {
+    if time < 1e4 { format!("{time:.1}") } else { format!("{time:.0}") }
 }
+
+fn print_every_window((name, table): &Shape) {
+    let plain = questions::try_every_window(table);
+    println!("\nFilling the {name} by trying every window, plain Rust: {plain:.0} microseconds.");
+}
+
+fn print_stack(shapes: &[Shape]) {
+    let table = size_of::<Table>();
+    println!(
+        "\nBytes of stack of one call, the most over these tables; the table by value is {table} of them."
+    );
+    for (name, measure) in STACK {
+        let most = shapes.iter().map(|(_, table)| measure(table)).max().expect("there are shapes");
+        println!("{name:17} {most:8}");
+    }
+}
+
+type Measure = fn(&Table) -> usize;
+
+/// The questions whose stack is measured, with their names.
+const STACK: [(&str, Measure); 5] = [
+    ("filling", |table| stack_of(|| answers::fill(*table, QUEUE, &mut vec![0; FILLING]))),
+    ("least, 2,000,000", |table| stack_of(|| answers::least(*table, QUEUE, LONGEST_WINDOW))),
+    ("verdict, sparse", |table| stack_of(|| answers::verdict(*table, QUEUE))),
+    ("wait for 65,535", |table| stack_of(|| answers::wait(*table, QUEUE, LONGEST_MESSAGE))),
+    ("step", |table| {
+        let state = state(table);
+        stack_of(|| answers::step(state, *table, &[0; 8], u32::MAX))
+    }),
+];

@@ -1,4 +1,5 @@
-//! What the program crates/cases asks about, what was worked out by hand for each case, and the lister's answers.
+//! What the program crates/cases asks about, what was worked out by hand for each case, and the lister's answers;
+//! and the sample records of tables/.
 //! The answers come from the lister alone; a hand-worked outcome that differs from the lister's stops the making.
 
 pub mod bounds;
@@ -7,9 +8,11 @@ pub mod question;
 pub mod records;
 pub mod sample;
 pub mod steps;
+pub mod stores;
 pub mod verdicts;
 
 use case::Case;
+use sample::Sample;
 
 /// The files of crates/cases/data in the order in which they are read, each with its cases.
 pub fn files() -> [(&'static str, Vec<Case>); 4] {
@@ -18,6 +21,18 @@ pub fn files() -> [(&'static str, Vec<Case>); 4] {
         ("bounds", bounds::all()),
         ("verdicts", verdicts::all()),
         ("steps", steps::all()),
+    ]
+}
+
+/// The tables of tables/, each by the name of its record.
+pub fn tables() -> [(&'static str, Sample); 6] {
+    [
+        ("a", sample::a()),
+        ("b", sample::b()),
+        ("figure4", sample::figure4()),
+        ("cellar", stores::cellar()),
+        ("draft", stores::draft()),
+        ("ripening", stores::ripening()),
     ]
 }
 

@@ -1,4 +1,4 @@
-//! `cases DIR` makes the files of data/ and stdout in DIR, which is crates/cases.
+//! `cases DIR` makes stdout and the files of data/ in crates/cases, and the records of tables/. DIR is the top folder.
 
 use std::path::Path;
 use std::process::ExitCode;
@@ -21,9 +21,12 @@ fn make(folder: &Path) -> Result<(), String> {
     let put = |name: &str, bytes: &[u8]| {
         std::fs::write(folder.join(name), bytes).map_err(|error| format!("{name}: {error}"))
     };
-    put("stdout", cases::answers()?.as_bytes())?;
+    put("crates/cases/stdout", cases::answers()?.as_bytes())?;
     for (file, cases) in cases::files() {
-        put(&format!("data/{file}"), &cases::bytes(&cases))?;
+        put(&format!("crates/cases/data/{file}"), &cases::bytes(&cases))?;
+    }
+    for (name, table) in cases::tables() {
+        put(&format!("tables/{name}.record"), &table.bytes())?;
     }
     Ok(())
 }

@@ -74,7 +74,7 @@ pub fn b() -> Sample {
     Sample::new(1, 5, &locations, &[])
 }
 
-/// tables/figure4.table.
+/// tables/figure4.record.
 pub fn figure4() -> Sample {
     let mut locations = [
         location(0, 2, 4, FULL),

@@ -2,8 +2,6 @@
 
 use std::path::Path;
 
-use cases::sample::{a, b, figure4};
-
 /// The buffer of the program under test, which reads each file whole.
 const BUFFER: usize = 65_536;
 
@@ -34,9 +32,9 @@ fn the_answers_are_the_listers() {
 
 #[test]
 fn the_samples_are_those_of_tables() {
-    assert_eq!(kept("tables/a.table"), a().bytes());
-    assert_eq!(kept("tables/b.table"), b().bytes());
-    assert_eq!(kept("tables/figure4.table"), figure4().bytes());
+    for (name, table) in cases::tables() {
+        assert_eq!(kept(&format!("tables/{name}.record")), table.bytes(), "tables/{name}.record");
+    }
 }
 
 #[test]

@@ -7,11 +7,6 @@ use Rattle.bounds.proofs.Answered.{cycle-least-says, cycle-most-says}
 use borrow.Author.Needs.{needs}
 use Rattle.bounds.proofs.cycle.Statement.{statement}
 use Rattle.bounds.proofs.cycle.Tie as tie
-use Rattle.bounds.proofs.cycle.Reads as reads
-use Rattle.bounds.proofs.cycle.Lts as lts
-use Rattle.bounds.proofs.questions.cycle.Reads as cycle-reads
-use Rattle.bounds.proofs.refusals.of_queue.Reads as of-queue-reads
-use Rattle.table.proofs.paths.wide.Reads as wide-reads
 
 -- no refusal
 asked : (c : tie.Else1) → let a = c .before .before .before .args in Asked (a .table) (a .queue)
@@ -20,46 +15,39 @@ asked c =
     let a = s .args in
     queue-asked (a .table) (ranged (a .table) _ (s .good .0)) (a .queue) (ap (λ (x : Refusal). x .number) (sym (c .before .before .of-queue .ensures)) ∙ c .if1 .left)
 
--- src/lib.rt:66:9
 of-queue-requires : tie.Need-of-queue-requires
 of-queue-requires c κs = search needs
 
--- src/lib.rt:68:9
 returns : tie.Need-returns
 returns c =
     let e = c .before .before .of-queue .ensures in
     let n = ap (λ (x : Refusal). x .number) e in
     record { refusal = e; least = λ z. absurd (c .if1 .taken (n ∙ z)); most = λ z. absurd (c .if1 .taken (n ∙ z)); silent = λ z. (refl, refl) }
 
--- src/lib.rt:74:9
 wide-requires : tie.Need-wide-requires
 wide-requires c κs = search needs
 
--- src/lib.rt:77:16
 cycle-requires : tie.Need-cycle-requires
 cycle-requires c κs = let k = asked (c .before) in (k .well-formed, k .some)
 
--- src/lib.rt:78:24
 cycle-requires-2 : tie.Need-cycle-requires-2
 cycle-requires-2 c κs = let k = asked (c .before .before) in (k .well-formed, k .some)
 
--- src/lib.rt:78:15
-sub-t10 : tie.Need-sub-t10
-sub-t10 c = search needs
+left-requires : tie.Need-left-requires
+left-requires c κs = search needs
 
--- src/lib.rt:63:1
 returns-2 : tie.Need-returns-2
 returns-2 c =
-    let a = c .before .before .before .before .before .before .args in
-    let k = asked (c .before .before .before) in
+    let a = c .before .before .before .before .before .before .before .args in
+    let k = asked (c .before .before .before .before) in
     let t = treeOf (a .table) in
-    let e = c .before .before .before .before .before .of-queue .ensures in
+    let e = c .before .before .before .before .before .before .of-queue .ensures in
     let n = ap (λ (x : Refusal). x .number) e in
     record {
       refusal = e;
-      least = λ z. cycle-least-says t (k .well-formed .formed) (a .queue) _ (c .before .cycle .ensures .0);
-      most = λ z. rw (c .before .before .wide .ensures .0) (cycle-most-says t (k .well-formed .formed) (a .queue) _ (c .cycle2 .ensures .0));
-      silent = λ z. absurd (z (sym n ∙ c .before .before .before .if1 .left));
+      least = λ z. cycle-least-says t (k .well-formed .formed) (a .queue) _ (c .before .before .cycle .ensures .0);
+      most = λ z. rw (c .left .ensures, c .before .before .before .wide .ensures .0) (cycle-most-says t (k .well-formed .formed) (a .queue) _ (c .before .cycle2 .ensures .0));
+      silent = λ z. absurd (z (sym n ∙ c .before .before .before .before .if1 .left));
     }
 
 pub cycle-spec : {M : Type 1} → statement M
@@ -71,5 +59,5 @@ cycle-spec =
     wide-requires
     cycle-requires
     cycle-requires-2
-    sub-t10
+    left-requires
     returns-2)

@@ -10,10 +10,6 @@ use Rattle.bounds.proofs.Answered.{least-says}
 use borrow.Author.Needs.{needs}
 use Rattle.bounds.proofs.fill.Statement.{statement}
 use Rattle.bounds.proofs.fill.Tie as tie
-use Rattle.bounds.proofs.fill.Reads as reads
-use Rattle.bounds.proofs.fill.Lts as lts
-use Rattle.bounds.proofs.questions.leasts.Reads as leasts-reads
-use Rattle.bounds.proofs.refusals.of_room.Reads as of-room-reads
 
 -- no refusal
 asked : (c : tie.Then1) → let a = c .before .before .before .before .args in Asked (a .table) (a .queue) × (2 * a .table .period ≤ length (a .out .now))
@@ -22,19 +18,15 @@ asked c =
     let a = s .args in
     room-asked (a .table) (ranged (a .table) _ (s .good .0)) (a .queue) (length (a .out .now)) (ap (λ (x : Refusal). x .number) (sym (c .before .before .of-room .ensures)) ∙ c .if1 .taken)
 
--- src/lib.rt:86:9
 of-room-requires : tie.Need-of-room-requires
 of-room-requires c κs = search needs
 
--- src/lib.rt:88:9
 leasts-requires : tie.Need-leasts-requires
 leasts-requires c κs = let k = asked (c .before) in (k .0 .well-formed, (k .0 .some, k .1))
 
--- src/lib.rt:83:1
 same-length : tie.Need-same-length
 same-length c = search needs
 
--- src/lib.rt:83:1
 returns : tie.Need-returns
 returns c =
     let a = c .before .before .before .before .before .before .before .before .args in
@@ -49,7 +41,6 @@ returns c =
       silent = λ z. absurd (z (c .before .before .before .before .if1 .taken));
     }
 
--- src/lib.rt:83:1
 returns-2 : tie.Need-returns-2
 returns-2 c =
     let z = c .if1 .left in

@@ -8,10 +8,6 @@ use Rattle.bounds.proofs.Answered.{answer-refused, answer-says, least-s
 use borrow.Author.Needs.{needs}
 use Rattle.bounds.proofs.least.Statement.{statement}
 use Rattle.bounds.proofs.least.Tie as tie
-use Rattle.bounds.proofs.least.Reads as reads
-use Rattle.bounds.proofs.least.Lts as lts
-use Rattle.bounds.proofs.questions.bound.Reads as bound-reads
-use Rattle.bounds.proofs.refusals.of_window.Reads as of-window-reads
 
 -- no refusal
 asked : (c : tie.Then1) → let a = c .before .before .before .args in Asked (a .table) (a .queue) × (a .window ≤ 2000000)
@@ -20,22 +16,18 @@ asked c =
     let a = s .args in
     window-asked (a .table) (ranged (a .table) _ (s .good .0)) (a .queue) (a .window) (ap (λ (x : Refusal). x .number) (sym (c .before .before .of-window .ensures)) ∙ c .if1 .taken)
 
--- src/lib.rt:36:9
 of-window-requires : tie.Need-of-window-requires
 of-window-requires c κs = search needs
 
--- src/lib.rt:39:9
 bound-requires : tie.Need-bound-requires
 bound-requires c κs = let k = asked c in (k .0 .well-formed, k .0 .some, k .1)
 
--- src/lib.rt:33:1
 returns : tie.Need-returns
 returns c =
     let a = c .before .before .before .before .args in
     let k = asked (c .before) in
     answer-says _ _ _ (c .before .before .before .of-window .ensures) _ (c .before .if1 .taken) (least-says (treeOf (a .table)) (k .0 .well-formed .formed) (a .queue) _ (a .window) (c .bound .ensures .0))
 
--- src/lib.rt:33:1
 returns-2 : tie.Need-returns-2
 returns-2 c = answer-refused _ _ _ (c .before .before .of-window .ensures) (c .if1 .left)
 

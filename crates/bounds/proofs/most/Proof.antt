@@ -8,10 +8,6 @@ use Rattle.bounds.proofs.Answered.{answer-refused, answer-says, most-sa
 use borrow.Author.Needs.{needs}
 use Rattle.bounds.proofs.most.Statement.{statement}
 use Rattle.bounds.proofs.most.Tie as tie
-use Rattle.bounds.proofs.most.Reads as reads
-use Rattle.bounds.proofs.most.Lts as lts
-use Rattle.bounds.proofs.questions.bound.Reads as bound-reads
-use Rattle.bounds.proofs.refusals.of_window.Reads as of-window-reads
 
 -- no refusal
 asked : (c : tie.Then1) → let a = c .before .before .before .args in Asked (a .table) (a .queue) × (a .window ≤ 2000000)
@@ -20,28 +16,24 @@ asked c =
     let a = s .args in
     window-asked (a .table) (ranged (a .table) _ (s .good .0)) (a .queue) (a .window) (ap (λ (x : Refusal). x .number) (sym (c .before .before .of-window .ensures)) ∙ c .if1 .taken)
 
--- src/lib.rt:51:9
 of-window-requires : tie.Need-of-window-requires
 of-window-requires c κs = search needs
 
--- src/lib.rt:54:26
 bound-requires : tie.Need-bound-requires
 bound-requires c κs = let k = asked c in (k .0 .well-formed, k .0 .some, k .1)
 
--- src/lib.rt:54:17
-sub-ticks : tie.Need-sub-ticks
-sub-ticks c = search needs
+left-requires : tie.Need-left-requires
+left-requires c κs = c .bound .ensures .1
 
--- src/lib.rt:48:1
 returns : tie.Need-returns
 returns c =
-    let a = c .before .before .before .before .args in
-    let k = asked (c .before) in
-    answer-says _ _ _ (c .before .before .before .of-window .ensures) _ (c .before .if1 .taken) (most-says (treeOf (a .table)) (k .0 .well-formed .formed) (a .queue) _ (a .window) (c .bound .ensures .0))
+    let a = c .before .before .before .before .before .args in
+    let k = asked (c .before .before) in
+    let m = most-says (treeOf (a .table)) (k .0 .well-formed .formed) (a .queue) _ (a .window) (c .before .bound .ensures .0) in
+    answer-says _ _ _ (c .before .before .before .before .of-window .ensures) _ (c .before .before .if1 .taken) (rw (c .left .ensures) m)
 
--- src/lib.rt:48:1
 returns-2 : tie.Need-returns-2
 returns-2 c = answer-refused _ _ _ (c .before .before .of-window .ensures) (c .if1 .left)
 
 pub most-spec : {M : Type 1} → statement M
-most-spec = tie.close (tie.spec of-window-requires bound-requires sub-ticks returns returns-2)
+most-spec = tie.close (tie.spec of-window-requires bound-requires left-requires returns returns-2)

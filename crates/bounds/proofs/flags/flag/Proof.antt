@@ -3,19 +3,13 @@ use borrow.Author.Tests.{eq-eqb, ne-eqb}
 use borrow.Author.Needs.{needs}
 use Rattle.bounds.proofs.flags.flag.Statement.{statement}
 use Rattle.bounds.proofs.flags.flag.Tie as tie
-use Rattle.bounds.proofs.flags.flag.Reads as reads
-use Rattle.bounds.proofs.flags.flag.Lts as lts
-use Rattle.table.proofs.paths.number.Reads as number-reads
 
--- src/flags.rt:12:8
 number-requires : tie.Need-number-requires
 number-requires c κs = search needs
 
--- src/flags.rt:13:9
 returns : tie.Need-returns
 returns c = simp (eq-eqb _ _ (sym (c .before .number .ensures .0) ∙ c .if1 .taken))
 
--- src/flags.rt:9:1
 returns-2 : tie.Need-returns-2
 returns-2 c = simp (ne-eqb _ _ (λ e. c .if1 .left (c .before .number .ensures .0 ∙ e)))
 

@@ -1,6 +1,5 @@
 use Prim.Native.Nat.{_-_}
 use mathlib.Core.Path.{refl}
-use native.Mathlib.Omega.{arith}
 use Rattle.laws.specs.Test.{bit}
 use Rattle.theory.specs.Grants.{is}
 use Rattle.table.specs.declared.Location.{Location}
@@ -9,9 +8,6 @@ use Rattle.table.proofs.Copied.{Copied, copied-none, copied-more, copied-all}
 use borrow.Author.Needs.{needs}
 use Rattle.bounds.proofs.flags.flags.Statement.{statement}
 use Rattle.bounds.proofs.flags.flags.Tie as tie
-use Rattle.bounds.proofs.flags.flags.Reads as reads
-use Rattle.bounds.proofs.flags.flags.Lts as lts
-use Rattle.bounds.proofs.flags.flag.Reads as flag-reads
 
 abbrev Inv-loop : tie.InvT-loop
 Inv-loop queue table column₀ v₀ column v = Copied (λ (l : Location). bit (is queue (l .queue))) (table .location) column v
@@ -19,39 +15,30 @@ Inv-loop queue table column₀ v₀ column v = Copied (λ (l : Location). bit (i
 abbrev μ-loop : tie.MeasureT-loop
 μ-loop queue table column₀ v₀ column v = 128 - v
 
--- src/flags.rt:23:5
 loop-holds : tie.Need-loop-holds Inv-loop μ-loop
 loop-holds c = copied-none _ _ _ refl
 
--- src/flags.rt:24:26
 mul-flag : tie.Need-mul-flag Inv-loop μ-loop
 mul-flag c = search needs
 
--- src/flags.rt:24:26
 element-copy-out-flag : tie.Need-element-copy-out-flag Inv-loop μ-loop
 element-copy-out-flag c = search needs
 
--- src/flags.rt:24:21
 flag-requires : tie.Need-flag-requires Inv-loop μ-loop
 flag-requires c κs = search needs
 
--- src/flags.rt:24:9
 array-write-column : tie.Need-array-write-column Inv-loop μ-loop
 array-write-column c = search needs
 
--- src/flags.rt:25:9
 add-v : tie.Need-add-v Inv-loop μ-loop
 add-v c = search needs
 
--- src/flags.rt:23:5
 loop-less : tie.Need-loop-less Inv-loop μ-loop
 loop-less c = search needs
 
--- src/flags.rt:23:5
 loop-again : tie.Need-loop-again Inv-loop μ-loop
 loop-again c = rw (c .flag .ensures) (copied-more _ _ _ _ (c .before .before .loop .inv) (c .before .loop-test .taken))
 
--- src/flags.rt:18:1
 returns : tie.Need-returns Inv-loop μ-loop
 returns c =
     let a = c .before .before in

@@ -5,17 +5,11 @@ use native.Mathlib.Omega.{arith}
 use Rattle.theory.specs.Cycles.{system, cycleLeast, leastOf}
 use Rattle.table.specs.Table.{treeOf}
 use Rattle.table.specs.Columns.{entry}
-use Rattle.bounds.specs.Lent.{asks}
+use Rattle.bounds.specs.Flagged.{asks}
 use Rattle.bounds.proofs.Agreeing.{least-small, far}
 use borrow.Author.Needs.{needs}
 use Rattle.bounds.proofs.questions.bound.Statement.{statement}
 use Rattle.bounds.proofs.questions.bound.Tie as tie
-use Rattle.bounds.proofs.questions.bound.Reads as reads
-use Rattle.bounds.proofs.questions.bound.Lts as lts
-use Rattle.bounds.proofs.numbers.long.Reads as long-reads
-use Rattle.bounds.proofs.questions.cycle.Reads as cycle-reads
-use Rattle.bounds.proofs.questions.leasts.Reads as leasts-reads
-use Rattle.table.proofs.paths.wide.Reads as wide-reads
 
 -- an entry that is read
 near : (c : tie.After-leasts) (i w : ℕ) → i ≡ w → w < 2 * c .before .before .args .table .period
@@ -49,35 +43,27 @@ sum-is c =
     let g = ap₂ _+_ e f ∙ sym (r .0) in
     (g, omega (arith, g, least-small (treeOf (a .table)) (s .pre .0 .formed) (asks (a .pass) (a .queue)) (a .window)))
 
--- src/questions.rt:70:32
 slice-aggregate-leasts : tie.Need-slice-aggregate-leasts
 slice-aggregate-leasts c = search needs
 
--- src/questions.rt:70:5
 leasts-requires : tie.Need-leasts-requires
 leasts-requires c κs = search needs
 
--- src/questions.rt:71:9
 wide-requires : tie.Need-wide-requires
 wide-requires c κs = search needs
 
--- src/questions.rt:72:17
 mul-if1 : tie.Need-mul-if1
 mul-if1 c = search needs
 
--- src/questions.rt:73:20
 long-requires : tie.Need-long-requires
 long-requires c κs = search needs
 
--- src/questions.rt:73:16
 mul-result : tie.Need-mul-result
 mul-result c = search needs
 
--- src/questions.rt:73:16
 array-read-result : tie.Need-array-read-result
 array-read-result c = search needs
 
--- src/questions.rt:73:9
 returns : tie.Need-returns
 returns c =
     let s = c .before .before .before .before .before .before in
@@ -85,51 +71,40 @@ returns c =
     let e = near (c .before .before .before .before) _ _ (c .long .ensures .0) (omega (arith, c .before .before .wide .ensures .0, s .pre .0 .period)) in
     (e, omega (arith, e, least-small (treeOf (a .table)) (s .pre .0 .formed) (asks (a .pass) (a .queue)) (a .window)))
 
--- src/questions.rt:75:16
 sub-more : tie.Need-sub-more
 sub-more c = search needs
 
--- src/questions.rt:76:39
 rem-long : tie.Need-rem-long
 rem-long c = search needs
 
--- src/questions.rt:76:30
 add-long : tie.Need-add-long
 add-long c =
     let s = c .before .before .before .before .before in
     omega (arith, c .before .wide .ensures .0, s .pre .0 .period, mod-lt (s .args .window - c .before .wide .result) {m = c .before .wide .result} (omega (arith, c .before .wide .ensures .0, s .pre .0 .period)))
 
--- src/questions.rt:76:9
 long-requires-2 : tie.Need-long-requires-2
 long-requires-2 c κs = search needs
 
--- src/questions.rt:77:5
 mul-result-2 : tie.Need-mul-result-2
 mul-result-2 c = search needs
 
--- src/questions.rt:77:5
 array-read-result-2 : tie.Need-array-read-result-2
 array-read-result-2 c =
     let s = c .before .before .before .before .before .before in
     omega (arith, s .pre .0 .period, reach (c .before) .2, c .long2 .ensures .0)
 
--- src/questions.rt:77:17
 div-result : tie.Need-div-result
 div-result c = search needs
 
--- src/questions.rt:77:33
 cycle-requires : tie.Need-cycle-requires
 cycle-requires c κs = search needs
 
--- src/questions.rt:77:17
 mul-result-3 : tie.Need-mul-result-3
 mul-result-3 c = omega (arith, c .before .before .before .before .before .before .before .pre .2, product c)
 
--- src/questions.rt:77:5
 add-result : tie.Need-add-result
 add-result c = omega (arith, c .before .before .before .before .before .before .before .pre .2, sum-is c .0, sum-is c .1)
 
--- src/questions.rt:65:1
 returns-2 : tie.Need-returns-2
 returns-2 c = sum-is c
 

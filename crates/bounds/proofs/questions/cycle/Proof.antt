@@ -1,43 +1,30 @@
 use mathlib.Core.Path.{_∙_}
 use native.Mathlib.Omega.{arith}
 use Rattle.table.specs.Table.{treeOf}
-use Rattle.bounds.specs.Lent.{asks}
+use Rattle.bounds.specs.Flagged.{asks}
 use Rattle.bounds.proofs.Agreeing.{lent-table, cycle-table, cycle-small}
 use borrow.Author.Needs.{needs}
 use Rattle.bounds.proofs.questions.cycle.Statement.{statement}
 use Rattle.bounds.proofs.questions.cycle.Tie as tie
-use Rattle.bounds.proofs.questions.cycle.Reads as reads
-use Rattle.bounds.proofs.questions.cycle.Lts as lts
-use Rattle.bounds.proofs.filling.cycle_least.Reads as cycle-least-reads
-use Rattle.bounds.proofs.flags.flags.Reads as flags-reads
-use Rattle.table.proofs.columns.parents.Reads as parents-reads
-use Rattle.table.proofs.columns.ticks.Reads as ticks-reads
-use Rattle.table.proofs.paths.wide.Reads as wide-reads
 
--- src/questions.rt:51:19
 parents-requires : tie.Need-parents-requires
 parents-requires c κs = search needs
 
--- src/questions.rt:52:17
 ticks-requires : tie.Need-ticks-requires
 ticks-requires c κs = search needs
 
--- src/questions.rt:53:17
 flags-requires : tie.Need-flags-requires
 flags-requires c κs = search needs
 
--- src/questions.rt:60:9
 wide-requires : tie.Need-wide-requires
 wide-requires c κs = search needs
 
--- src/questions.rt:54:5
 cycle-least-requires : tie.Need-cycle-least-requires
 cycle-least-requires c κs =
     let s = c .before .before .before .before .before .before .before in
     let a = s .args in
     lent-table (a .table) (a .queue) (s .pre .1) _ _ _ _ (c .before .before .before .before .before .before .parents .ensures) (c .before .before .before .before .before .ticks .ensures) (c .before .before .before .before .flags .ensures) (c .wide .ensures .0) (s .pre .0)
 
--- src/questions.rt:47:1
 returns : tie.Need-returns
 returns c =
     let s = c .before .before .before .before .before .before .before .before in

@@ -3,31 +3,19 @@ use Rattle.bounds.proofs.Agreeing.{lent-table, leasts-table}
 use borrow.Author.Needs.{needs}
 use Rattle.bounds.proofs.questions.leasts.Statement.{statement}
 use Rattle.bounds.proofs.questions.leasts.Tie as tie
-use Rattle.bounds.proofs.questions.leasts.Reads as reads
-use Rattle.bounds.proofs.questions.leasts.Lts as lts
-use Rattle.bounds.proofs.filling.leasts.Reads as leasts-reads
-use Rattle.bounds.proofs.flags.flags.Reads as flags-reads
-use Rattle.table.proofs.columns.parents.Reads as parents-reads
-use Rattle.table.proofs.columns.ticks.Reads as ticks-reads
-use Rattle.table.proofs.paths.wide.Reads as wide-reads
 
--- src/questions.rt:32:19
 parents-requires : tie.Need-parents-requires
 parents-requires c κs = search needs
 
--- src/questions.rt:33:17
 ticks-requires : tie.Need-ticks-requires
 ticks-requires c κs = search needs
 
--- src/questions.rt:34:17
 flags-requires : tie.Need-flags-requires
 flags-requires c κs = search needs
 
--- src/questions.rt:42:9
 wide-requires : tie.Need-wide-requires
 wide-requires c κs = search needs
 
--- src/questions.rt:35:5
 leasts-requires : tie.Need-leasts-requires
 leasts-requires c κs =
     let s = c .before .before .before .before .before .before .before .before .before in
@@ -36,11 +24,9 @@ leasts-requires c κs =
       omega (arith, c .wide .ensures .0, s .pre .1 .1),
     )
 
--- src/questions.rt:27:1
 same-length : tie.Need-same-length
 same-length c = search needs
 
--- src/questions.rt:27:1
 returns : tie.Need-returns
 returns c =
     let s = c .before .before .before .before .before .before .before .before .before .before .before .before in

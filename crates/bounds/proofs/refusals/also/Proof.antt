@@ -4,23 +4,16 @@ use Rattle.bounds.proofs.Refused.{also-refused, also-passed}
 use borrow.Author.Needs.{needs}
 use Rattle.bounds.proofs.refusals.also.Statement.{statement}
 use Rattle.bounds.proofs.refusals.also.Tie as tie
-use Rattle.bounds.proofs.refusals.also.Reads as reads
-use Rattle.bounds.proofs.refusals.also.Lts as lts
-use Rattle.table.proofs.Refusal.none.Reads as none-reads
 
--- src/refusals.rt:18:9
 returns : tie.Need-returns
 returns c = let a = c .before .before .args in sym (also-refused (a .first) (a .broken) (a .number) (c .if1 .taken))
 
--- src/refusals.rt:21:9
 returns-2 : tie.Need-returns-2
 returns-2 c = let a = c .before .before .before .args in sym (also-passed (a .first) (a .broken) (a .number) (c .before .if1 .left) ∙ ap (λ b. refuseIf b (a .number)) (c .if2 .taken))
 
--- src/refusals.rt:26:5
 none-requires : tie.Need-none-requires
 none-requires c κs = search needs
 
--- src/refusals.rt:14:1
 returns-3 : tie.Need-returns-3
 returns-3 c = let a = c .before .before .before .before .args in c .none .ensures ∙ sym (also-passed (a .first) (a .broken) (a .number) (c .before .before .if1 .left) ∙ ap (λ b. refuseIf b (a .number)) (c .before .if2 .left))
 

@@ -6,19 +6,13 @@ use Rattle.laws.proofs.Test.{le-or-lt}
 use borrow.Author.Needs.{needs}
 use Rattle.bounds.proofs.refusals.is_outside.Statement.{statement}
 use Rattle.bounds.proofs.refusals.is_outside.Tie as tie
-use Rattle.bounds.proofs.refusals.is_outside.Reads as reads
-use Rattle.bounds.proofs.refusals.is_outside.Lts as lts
-use Rattle.table.proofs.paths.number.Reads as number-reads
 
--- src/refusals.rt:33:9
 returns : tie.Need-returns
 returns c = rw (c .if1 .taken)
 
--- src/refusals.rt:35:5
 number-requires : tie.Need-number-requires
 number-requires c κs = search needs
 
--- src/refusals.rt:29:1
 returns-2 : tie.Need-returns-2
 returns-2 c =
     let a = c .before .before .args in

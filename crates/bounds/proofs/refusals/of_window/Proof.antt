@@ -4,20 +4,13 @@ use Rattle.bounds.specs.Questions.{also, windowRefusal}
 use borrow.Author.Needs.{needs}
 use Rattle.bounds.proofs.refusals.of_window.Statement.{statement}
 use Rattle.bounds.proofs.refusals.of_window.Tie as tie
-use Rattle.bounds.proofs.refusals.of_window.Reads as reads
-use Rattle.bounds.proofs.refusals.of_window.Lts as lts
-use Rattle.bounds.proofs.refusals.also.Reads as also-reads
-use Rattle.bounds.proofs.refusals.of_queue.Reads as of-queue-reads
 
--- src/refusals.rt:48:10
 of-queue-requires : tie.Need-of-queue-requires
 of-queue-requires c κs = search needs
 
--- src/refusals.rt:48:5
 also-requires : tie.Need-also-requires
 also-requires c κs = search needs
 
--- src/refusals.rt:45:1
 returns : tie.Need-returns
 unfolding windowRefusal
 returns c = let w = c .before .before .args .window in c .also .ensures ∙ ap (λ r. also r (ltb 2000000 w) 11) (c .before .of-queue .ensures)

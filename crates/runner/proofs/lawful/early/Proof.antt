@@ -3,8 +3,8 @@ use mathlib.Core.Path.{_≡_, sym, _∙_}
 use mathlib.Core.Bool.{Bool}
 use Prim.Native.Nat.{ℕ, _-_}
 use native.Mathlib.Omega.{arith}
-use Rattle.table.proofs.Lowest.{Kept, kept-none, kept-more, lowest-found, lowest-none}
-use Rattle.runner.specs.State.{jobIn}
+use Rattle.judge.proofs.Lowest.{Kept, kept-none, kept-more, lowest-found, lowest-none}
+use Rattle.jobs.specs.Entries.{jobIn}
 use Rattle.runner.specs.Step.{isEarly}
 use borrow.Author.Needs.{needs}
 use Rattle.runner.proofs.lawful.early.Statement.{statement}

@@ -4,8 +4,9 @@ use mathlib.Core.Bool.{Bool, not}
 use Prim.Native.Nat.{ℕ, _-_}
 use native.Mathlib.Omega.{arith}
 use Rattle.runner.proofs.Passes.{one-breaks, none-breaks}
-use Rattle.table.proofs.Lowest.{Kept, kept-none, kept-more}
-use Rattle.runner.specs.State.{jobIn, unlawful}
+use Rattle.judge.proofs.Lowest.{Kept, kept-none, kept-more}
+use Rattle.jobs.specs.Entries.{jobIn}
+use Rattle.runner.specs.State.{unlawful}
 use borrow.Author.Needs.{needs}
 use Rattle.runner.proofs.lawful.jobs_are_lawful.Statement.{statement}
 use Rattle.runner.proofs.lawful.jobs_are_lawful.Tie as tie

@@ -1,7 +1,8 @@
 -- `runner::lawful::rest_is_zero` meets its contract: no entry below i is left over, as those below n do not count. Assumes nothing.
 use mathlib.Core.Bool.{_&&_, Bool, not}
 use borrow.Author.Tests.{le-leb}
-use Rattle.runner.specs.State.{isZero, jobIn, leftOver}
+use Rattle.jobs.specs.Entries.{jobIn}
+use Rattle.runner.specs.State.{isZero, leftOver}
 use lib.Arith.{lt→nleb}
 use lib.Dec.{T, leb}
 use borrow.Author.Count.{below-more}

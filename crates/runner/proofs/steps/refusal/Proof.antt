@@ -3,7 +3,7 @@ use mathlib.Core.Path.{_≡_, sym, ap, _∙_}
 use mathlib.Core.Bool.{not}
 use Rattle.table.specs.declared.Refusal.{Refusal}
 use Rattle.table.specs.Rules.{refuse, fine, judged}
-use Rattle.table.proofs.Lowest.{if-refused, if-kept}
+use Rattle.judge.proofs.Lowest.{if-refused, if-kept}
 use Rattle.runner.specs.State.{jobAt, isLawful}
 use Rattle.runner.specs.Step.{earlyTask}
 use Rattle.runner.proofs.Refusals.{counted, table-refuses, table-passes}

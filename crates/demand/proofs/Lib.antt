@@ -1,0 +1,5 @@
+-- The laws behind the functions, in reading order.
+pub mod NextDeadlines
+pub mod OwnTasks
+pub mod Blocks
+pub mod Multiples

@@ -1,0 +1,2 @@
+-- What the functions hand back.
+pub mod Ahead

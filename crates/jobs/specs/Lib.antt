@@ -1,0 +1,2 @@
+-- Jobs as the entries of a state.
+pub mod Entries

@@ -1,0 +1,2 @@
+-- What becomes of a slice's entries.
+pub mod Changes

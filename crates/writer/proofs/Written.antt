@@ -1,0 +1,67 @@
+-- What writing answers and leaves, in each of its three cases: judged, no room, written. Assumes nothing.
+use mathlib.Core.Path.{_≡_, sym, ap, _∙_}
+use mathlib.Core.Bool.{Bool, true, false, not, _&&_}
+use mathlib.Core.List.{List}
+use Prim.Native.Nat.{ℕ, suc, _≤_, _<_}
+use native.Mathlib.Omega.{arith}
+use borrow.Author.Tests.{lt-ltb, le-ltb}
+use lib.ListN.{length}
+use lib.Seq.{sets}
+use lib.Dec.{T, leb, ltb, leb→le}
+use Rattle.laws.proofs.Test.{and-left, and-right}
+use Rattle.table.specs.declared.Table.{Table}
+use Rattle.table.specs.declared.Refusal.{Refusal}
+use Rattle.table.specs.Rules.{refusal, fine, refuse, foundIf, within, judged}
+use Rattle.writer.specs.declared.WriteAnswer.{WriteAnswer}
+use Rattle.record.specs.Format.{recordOf, recordLength}
+use Rattle.writer.specs.Writing.{writeRefusal, writeOf, written}
+use Rattle.record.proofs.Cases.{zero-case, suc-case, true-case, false-case}
+
+-- ---- a table that the judge accepts has counts in their limits
+
+holds-first : (b : Bool) (n : ℕ) (next : Refusal) → refuse (suc n) (λ v. 0) (foundIf (not b)) next .number ≡ 0 → T b
+holds-first true n next e = tt
+holds-first false n next e = absurd (omega arith)
+
+pub judged-counts : (t : Table) → judged t .number ≡ 0 → (t .locations ≤ 128) × (t .tasks ≤ 32)
+unfolding judged
+judged-counts t e =
+    let locations = within 1 128 (t .locations) in
+    let tasks = leb (t .tasks) 32 in
+    let counts = holds-first (locations && tasks) 2 _ e in
+    let few = and-right (leb 1 (t .locations)) (leb (t .locations) 128) (and-left locations tasks counts) in
+    (leb→le _ _ few, leb→le _ _ (and-right locations tasks counts))
+
+-- ---- the three cases
+
+-- What stands beside a refusal.
+abbrev refused : Refusal → WriteAnswer
+refused r = record { refusal = r; length = 0 }
+
+module _ (t : Table) (out : List ℕ) where
+  refused-writing : (writeRefusal t (length out) .number ≡ 0 → ⊥) → (refused (writeRefusal t (length out)) ≡ writeOf t (length out)) × (out ≡ written t out)
+  unfolding writeOf written
+  refused-writing h =
+      let r = writeRefusal t (length out) in
+      (sym (suc-case (r .number) _ (λ n. refused r) h), sym (suc-case (r .number) _ (λ n. out) h))
+
+  pub judge-refuses : (judged t .number ≡ 0 → ⊥) → (refused (judged t) ≡ writeOf t (length out)) × (out ≡ written t out)
+  unfolding writeRefusal
+  judge-refuses h =
+      let e : writeRefusal t (length out) ≡ judged t = suc-case (judged t .number) _ (λ n. judged t) h in
+      rw e at (refused-writing (rw e h))
+
+  pub room-refuses : judged t .number ≡ 0 → length out < recordLength t → (refused (refusal 16 0) ≡ writeOf t (length out)) × (out ≡ written t out)
+  unfolding writeRefusal
+  room-refuses z h =
+      let test = true-case (ltb (length out) (recordLength t)) _ _ (lt-ltb _ _ h) in
+      let e : writeRefusal t (length out) ≡ refusal 16 0 = zero-case (judged t .number) _ (λ n. judged t) z ∙ test in
+      rw e at (refused-writing (rw e (λ z. omega arith)))
+
+  pub write-fits : judged t .number ≡ 0 → recordLength t ≤ length out → (record { refusal = fine; length = recordLength t } ≡ writeOf t (length out)) × (sets out 0 (recordOf t) ≡ written t out)
+  unfolding writeRefusal writeOf written
+  write-fits z h =
+      let r = writeRefusal t (length out) in
+      let test = false-case (ltb (length out) (recordLength t)) _ _ (le-ltb _ _ h) in
+      let e : r .number ≡ 0 = ap (λ r. r .number) (zero-case (judged t .number) _ (λ n. judged t) z ∙ test) in
+      (sym (zero-case (r .number) _ (λ n. refused r) e), sym (zero-case (r .number) _ (λ n. out) e))

@@ -1,0 +1,2 @@
+-- What writing a table answers and leaves.
+pub mod Writing

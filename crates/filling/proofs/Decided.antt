@@ -1,5 +1,5 @@
--- From columns to bounds: the sets of points that lower the slice are the corner points of the lent tree, so after the two passes
--- every entry is its window's least. Assumes nothing.
+-- From columns to bounds: no point that lowers the slice is below its bound, and every corner point of the lent tree has lowered its
+-- entry, so after the two passes every entry is its window's least. Assumes nothing.
 use mathlib.Core.Path.{_≡_, refl, sym, ap, subst, _∙_}
 use mathlib.Core.Bool.{Bool, true, false, not, _&&_}
 use mathlib.Core.List.{List, []}

@@ -1,5 +1,5 @@
--- Refusals in order: one that is there stands, else the next test decides. Where the queue may be asked about, the table is well formed,
--- and a slice of 2,048 entries has room. Assumes nothing.
+-- Refusals in order and what stands beside them: one that is there stands, else the next test decides. A slice of 2,048 entries has room
+-- for the filling of every table. Assumes nothing.
 use mathlib.Core.Path.{_≡_, refl, sym, ap, _∙_}
 use mathlib.Core.Bool.{Bool, true, false, not}
 use Prim.Native.Nat.{ℕ, _*_, _≤_, _<_}
@@ -34,7 +34,7 @@ also-kept r false n e y = also-passed r false n e
 
 -- ---- tests
 
-pub within-yes : (a b x : ℕ) → a ≤ x → x ≤ b → T (not (not (within a b x)))
+within-yes : (a b x : ℕ) → a ≤ x → x ≤ b → T (not (not (within a b x)))
 within-yes a b x l m = not-T (not (within a b x)) (λ n. T-not (within a b x) n (and-both (leb a x) (leb x b) (le→leb a x l) (le→leb x b m)))
 
 pub within-low : (a b x : ℕ) → x < a → T (not (within a b x))

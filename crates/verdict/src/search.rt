@@ -29,8 +29,8 @@ fn supply(filled: &[u32; VerdictAnswer::FILLING], period: u16, cycle: u32, windo
 }
 
 // The verdict, from the filling, the cycle least and the multiple. Demand moves at deadlines only, and least never falls:
-// the shortest short window is a deadline, and one past the multiple has a shorter one before it. So each block begins at
-// the next deadline, and in it only the windows with work are compared.
+// the shortest short window is a deadline, and one past the multiple has a shorter one before it. So the next block begins
+// at the next deadline, and only windows with work are compared.
 pub fn decide(
     table: Table,
     queue: u32,

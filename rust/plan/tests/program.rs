@@ -87,7 +87,7 @@ fn single_questions_are_answered_in_a_line() {
     prints("verdict a.record 1", b"", "meets\n");
     prints("verdict draft.record 1", b"", "short 40 2 0\n");
     prints("wait a.record 1 2", b"", "8\n");
-    prints("wait figure4.table 1 3", b"", "26\n");
+    prints("wait figure4.record 1 3", b"", "26\n");
 }
 
 #[test]

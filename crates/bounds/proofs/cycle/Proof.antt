@@ -1,3 +1,5 @@
+-- `bounds::cycle` meets its contract: without a refusal the table is well formed, and both numbers are by the least of a cycle. Assumes
+-- nothing.
 use mathlib.Core.Path.{refl, sym, ap, _∙_}
 use Rattle.table.specs.declared.Refusal.{Refusal}
 use Rattle.table.specs.Table.{treeOf}

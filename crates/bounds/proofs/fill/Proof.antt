@@ -1,3 +1,5 @@
+-- `bounds::fill` meets its contract: without a refusal the table is well formed, and every entry is the least over the runs; beside a
+-- refusal nothing is written. Assumes nothing.
 use mathlib.Core.Path.{refl, sym, ap, _∙_}
 use Prim.Native.Nat.{_*_, _≤_}
 use native.Mathlib.Omega.{arith}

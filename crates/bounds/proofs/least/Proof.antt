@@ -1,3 +1,5 @@
+-- `bounds::least` meets its contract: without a refusal the table is well formed, and its bound is the least over the runs. Assumes
+-- nothing.
 use mathlib.Core.Path.{sym, ap, _∙_}
 use Prim.Native.Nat.{_≤_}
 use Rattle.table.specs.declared.Refusal.{Refusal}

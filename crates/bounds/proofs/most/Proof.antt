@@ -1,3 +1,5 @@
+-- `bounds::most` meets its contract: without a refusal the table is well formed, and what the others have at least is left of the window.
+-- Assumes nothing.
 use mathlib.Core.Path.{sym, ap, _∙_}
 use Prim.Native.Nat.{_≤_}
 use Rattle.table.specs.declared.Refusal.{Refusal}

@@ -1,3 +1,4 @@
+-- `filling::cycle_least` meets its contract: the root's rest is the least of a whole cycle. Assumes nothing.
 use mathlib.Core.Path.{_∙_}
 use Rattle.theory.specs.Grants.{is}
 use Rattle.theory.proofs.Rest.{rest-root}

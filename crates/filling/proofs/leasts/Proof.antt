@@ -1,3 +1,5 @@
+-- `filling::leasts` meets its contract: the columns are those of the lent tree, so what the corners and the passes leave are its
+-- bounds. Assumes nothing.
 use Prim.Native.Nat.{_<_}
 use native.Mathlib.Omega.{arith}
 use Rattle.theory.proofs.Paths.{some-tick}

@@ -1,3 +1,4 @@
+-- `listing::lines` meets its contract: the loop ends because the queues that are left grow fewer. Assumes nothing.
 use Prim.Native.Nat.{_-_, _≤_}
 use borrow.Author.Needs.{needs}
 use Rattle.listing.proofs.lines.Statement.{statement}

@@ -1,3 +1,4 @@
+-- `bounds::flags::flag` meets its contract: its test is the one of the definition. Assumes nothing.
 use mathlib.Core.Path.{sym, _∙_}
 use borrow.Author.Tests.{eq-eqb, ne-eqb}
 use borrow.Author.Needs.{needs}

@@ -1,3 +1,4 @@
+-- `bounds::flags::flags` meets its contract: the loop keeps that the first v entries are flags. Assumes nothing.
 use Prim.Native.Nat.{_-_}
 use mathlib.Core.Path.{refl}
 use Rattle.laws.specs.Test.{bit}

@@ -1,3 +1,5 @@
+-- `bounds::questions::bound` meets its contract: below two periods it is an entry, and past them the law of the period leads back to one.
+-- The numbers fit, since no bound is above its window. Assumes nothing.
 use mathlib.Core.Path.{_≡_, sym, ap, ap₂, _∙_}
 use Prim.Native.Nat.{ℕ, _+_, _-_, _*_, _/_, _%_, _≤_, _<_}
 use native.Mathlib.Nat.{mod-lt}

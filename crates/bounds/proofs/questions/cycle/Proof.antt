@@ -1,3 +1,4 @@
+-- `bounds::questions::cycle` meets its contract: the lent tree has the table's least of a cycle. Assumes nothing.
 use mathlib.Core.Path.{_∙_}
 use native.Mathlib.Omega.{arith}
 use Rattle.table.specs.Table.{treeOf}

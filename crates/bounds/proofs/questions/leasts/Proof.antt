@@ -1,3 +1,4 @@
+-- `bounds::questions::leasts` meets its contract: the lent tree has the table's bounds. Assumes nothing.
 use native.Mathlib.Omega.{arith}
 use Rattle.bounds.proofs.Agreeing.{lent-table, leasts-table}
 use borrow.Author.Needs.{needs}

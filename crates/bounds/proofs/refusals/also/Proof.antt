@@ -1,3 +1,4 @@
+-- `bounds::refusals::also` meets its contract: its two tests are those of the definition. Assumes nothing.
 use mathlib.Core.Path.{sym, ap, _∙_}
 use Rattle.bounds.specs.Questions.{refuseIf}
 use Rattle.bounds.proofs.Refused.{also-refused, also-passed}

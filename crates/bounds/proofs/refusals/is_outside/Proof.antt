@@ -1,3 +1,4 @@
+-- `bounds::refusals::is_outside` meets its contract: its two tests are those of the definition. Assumes nothing.
 use mathlib.Core.Logic.{inl, inr}
 use Prim.Native.Nat.{_≤_}
 use native.Mathlib.Omega.{arith}

@@ -1,3 +1,4 @@
+-- `bounds::refusals::of_queue` meets its contract: the table's refusal, then the queue's. Assumes nothing.
 use mathlib.Core.Path.{ap₂, _∙_}
 use Rattle.bounds.specs.Questions.{also, queueRefusal}
 use borrow.Author.Needs.{needs}

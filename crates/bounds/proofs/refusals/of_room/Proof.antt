@@ -1,3 +1,4 @@
+-- `bounds::refusals::of_room` meets its contract: the queue's refusal, then the room's. Assumes nothing.
 use mathlib.Core.Path.{ap₂, _∙_}
 use Prim.Native.Nat.{_*_}
 use lib.Dec.{ltb}

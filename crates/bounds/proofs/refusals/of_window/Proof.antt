@@ -1,3 +1,4 @@
+-- `bounds::refusals::of_window` meets its contract: the queue's refusal, then the window's. Assumes nothing.
 use mathlib.Core.Path.{ap, _∙_}
 use lib.Dec.{ltb}
 use Rattle.bounds.specs.Questions.{also, windowRefusal}

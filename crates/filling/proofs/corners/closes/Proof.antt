@@ -1,3 +1,4 @@
+-- `filling::corners::closes` meets its contract: the loop keeps the marks among the first locations. Assumes nothing.
 use mathlib.Core.Path.{_≡_, refl}
 use Prim.Native.Nat.{_-_, _≤_}
 use native.Mathlib.Omega.{arith}

@@ -1,3 +1,4 @@
+-- `filling::corners::early` meets its contract: its test is the one of the definition. Assumes nothing.
 use borrow.Author.Tests.{lt-ltb, le-ltb}
 use Rattle.filling.proofs.corners.early.Statement.{statement}
 use Rattle.filling.proofs.corners.early.Tie as tie

@@ -1,3 +1,4 @@
+-- `filling::corners::opens` meets its contract: the loop keeps that the first v entries are marks. Assumes nothing.
 use mathlib.Core.Path.{_≡_, refl}
 use Prim.Native.Nat.{_-_, _≤_}
 use native.Mathlib.Omega.{arith}

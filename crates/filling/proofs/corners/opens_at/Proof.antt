@@ -1,3 +1,4 @@
+-- `filling::corners::opens_at` meets its contract: its tests are those of the definition. Assumes nothing.
 use mathlib.Core.Path.{sym, ap, _∙_}
 use native.Mathlib.Omega.{arith}
 use Rattle.table.specs.Columns.{entry}

@@ -1,3 +1,4 @@
+-- `filling::rest::joined` meets its contract: its test is the one that the definition picks by. Assumes nothing.
 use borrow.Author.Tests.{lt-ltb, le-ltb}
 use native.Mathlib.Omega.{arith}
 use borrow.Author.Needs.{needs}

@@ -1,3 +1,5 @@
+-- `filling::rest::rests` meets its contract: the loop keeps the rests from v on, and before v the least of the children met. Assumes
+-- nothing.
 use mathlib.Core.Path.{_≡_, refl, ap, _∙_}
 use Prim.Native.Nat.{suc, _-_, _<_, min}
 use native.Mathlib.Omega.{arith}

@@ -1,3 +1,5 @@
+-- `filling::sums::before` meets its contract, by what is kept, and by the two laws of a path's sum. It ends because a parent's number is
+-- below its child's. Assumes nothing.
 use mathlib.Core.List.{List}
 use mathlib.Core.Path.{sym, ap}
 use native.Mathlib.Omega.{arith}

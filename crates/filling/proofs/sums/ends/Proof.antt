@@ -1,3 +1,5 @@
+-- `filling::sums::ends` meets its contract: the loop keeps the ends of the first v locations. The sum fits, since no location begins after
+-- the longest period. Assumes nothing.
 use mathlib.Core.Path.{_≡_, refl, ap}
 use Prim.Native.Nat.{_+_, _-_, _≤_}
 use native.Mathlib.Omega.{arith}

@@ -1,3 +1,4 @@
+-- `filling::sums::own` meets its contract: its test is the one that the definition picks by. Assumes nothing.
 use borrow.Author.Tests.{eq-eqb, ne-eqb}
 use borrow.Author.Needs.{needs}
 use Rattle.filling.proofs.sums.own.Statement.{statement}

@@ -1,3 +1,4 @@
+-- `filling::sums::owns` meets its contract: the loop keeps the own ticks of the first v locations. Assumes nothing.
 use mathlib.Core.Path.{_≡_, refl}
 use Prim.Native.Nat.{_-_, _≤_}
 use native.Mathlib.Omega.{arith}

@@ -1,3 +1,5 @@
+-- `filling::sums::sums` meets its contract: the loop keeps the sums of the first v locations, none too large for its number. Assumes
+-- nothing.
 use mathlib.Core.Path.{_≡_, refl}
 use mathlib.Core.List.{List}
 use mathlib.Core.Logic.{inl, inr}

@@ -1,3 +1,5 @@
+-- `filling::walks::upward` meets its contract: first a's own point, then those from its parent up. It ends because a parent's number is
+-- below its child's. Assumes nothing.
 use mathlib.Core.Path.{_∙_}
 use native.Mathlib.Omega.{arith}
 use Rattle.theory.specs.Points.{self, below}

@@ -1,3 +1,4 @@
+-- `filling::walks::across` meets its contract: the loop keeps what the points from the first locations have lowered. Assumes nothing.
 use mathlib.Core.Path.{_≡_}
 use Prim.Native.Nat.{_-_, _≤_}
 use native.Mathlib.Omega.{arith}

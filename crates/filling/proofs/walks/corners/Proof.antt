@@ -1,3 +1,4 @@
+-- `filling::walks::corners` meets its contract: one after the other, each on the slice that the one before leaves. Assumes nothing.
 use native.Mathlib.Omega.{arith}
 use borrow.Author.Needs.{needs}
 use Rattle.filling.proofs.walks.corners.Statement.{statement}

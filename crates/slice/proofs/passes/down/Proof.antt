@@ -1,3 +1,4 @@
+-- `slice::passes::down` meets its contract: the loop keeps that the entries from i on are those of the pass. Assumes nothing.
 use mathlib.Core.Path.{_≡_, refl, ap, _∙_}
 use Prim.Native.Nat.{_-_, _+_, _≤_, min}
 use native.Mathlib.Omega.{arith}

@@ -1,3 +1,4 @@
+-- `slice::passes::ramp` meets its contract: the loop keeps that the first i entries are the ramp. Assumes nothing.
 use mathlib.Core.Path.{refl}
 use Prim.Native.Nat.{_-_, _+_, _≤_, zero-le}
 use native.Mathlib.Omega.{arith}

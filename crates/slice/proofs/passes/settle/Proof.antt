@@ -1,3 +1,4 @@
+-- `slice::passes::settle` meets its contract: one pass after the other. Assumes nothing.
 use Rattle.slice.proofs.Settling.{settled}
 use borrow.Author.Needs.{needs}
 use Rattle.slice.proofs.passes.settle.Statement.{statement}

@@ -1,3 +1,4 @@
+-- `slice::passes::up` meets its contract: the loop keeps that the entries up to i are those of the pass. Assumes nothing.
 use Prim.Native.Nat.{_-_, _+_, _≤_}
 use native.Mathlib.Omega.{arith}
 use Rattle.theory.specs.Filling.{up}

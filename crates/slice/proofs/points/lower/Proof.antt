@@ -1,3 +1,5 @@
+-- `slice::points::lower` meets its contract: a point without a mark changes nothing, and a marked one writes the lesser number. Assumes
+-- nothing.
 use mathlib.Core.Path.{ap, _∙_}
 use Prim.Native.Nat.{min}
 use native.Mathlib.Omega.{arith}

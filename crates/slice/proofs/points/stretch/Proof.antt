@@ -1,3 +1,5 @@
+-- `slice::points::stretch` meets its contract: the loop keeps what the entries from i on have lowered, and that those before i are as they
+-- were. Assumes nothing.
 use Prim.Native.Nat.{_+_, _≤_}
 use native.Mathlib.Omega.{arith}
 use Rattle.slice.proofs.Lowering.{Stretching, stretching-none, stretching-more, stretching-all}

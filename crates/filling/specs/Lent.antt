@@ -53,10 +53,10 @@ abbrev pub Below : ℕ → ℕ → List ℕ → Type 0
 Below n limit xs = (v : ℕ) → v < n → entry xs v ≤ limit
 
 -- a and what is above it begin no later, and with no higher count.
-abbrev pub Reaches : List ℕ → List ℕ → List ℕ → ℕ → ℕ → ℕ → Type 0
-Reaches parents begins counts a end count =
+abbrev pub Precedes : List ℕ → List ℕ → List ℕ → ℕ → ℕ → ℕ → Type 0
+Precedes parents begins counts a end count =
     (b : ℕ) → Above (lentTree parents [] [] 0 0) b a → (entry begins b ≤ end) × (entry counts b ≤ count)
 
 -- So for the end of every location below n.
 abbrev pub Rises : List ℕ → List ℕ → List ℕ → List ℕ → ℕ → Type 0
-Rises parents begins ends counts n = (v : ℕ) → v < n → Reaches parents begins counts v (entry ends v) (entry counts v)
+Rises parents begins ends counts n = (v : ℕ) → v < n → Precedes parents begins counts v (entry ends v) (entry counts v)

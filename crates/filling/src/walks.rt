@@ -4,7 +4,7 @@ ghost use Prim.Native.Nat.{_+_, _<_, _≤_};
 ghost use lib.ListN.{length};
 ghost use Rattle.laws.proofs.Climb.{Falls};
 ghost use Rattle.table.specs.Columns.{entry};
-ghost use Rattle.filling.specs.Lent.{Reaches, Rises, Below};
+ghost use Rattle.filling.specs.Lent.{Precedes, Rises, Below};
 ghost use Rattle.slice.specs.Changes.{Lowers, Until};
 ghost use Rattle.filling.specs.Sets.{Upward, Inner, Onward, Across, Corners};
 use slice::numbers;
@@ -25,7 +25,7 @@ fn upward(
     count: usize,
 )
     requires { ⌜ (last < length (now out)) × (last < 2048) × (a < 128) × Falls (entry (now parents)) (a + 1) ⌝ }
-    requires { ⌜ Reaches (now parents) (now begins) (now counts) a end count ⌝ }
+    requires { ⌜ Precedes (now parents) (now begins) (now counts) a end count ⌝ }
     ensures { λ _. ⌜ Lowers last (Upward (now (parents .entry)) (now (opens .entry)) (now (begins .entry)) (now (counts .entry)) a end count) (now (out .entry)) (now (out .exit)) ⌝ }
 {
     points::lower(

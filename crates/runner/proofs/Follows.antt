@@ -28,7 +28,7 @@ use Rattle.runner.specs.declared.FreshAnswer.{FreshAnswer}
 use Rattle.runner.specs.declared.StepAnswer.{StepAnswer}
 use Rattle.runner.specs.State.{jobAt, positionOf, Lawful, freshState, freshAnswer}
 use Rattle.runner.specs.Step.{isEarly, valueAt, stepped}
-use Rattle.runner.specs.History.{Inputs, stateAt, answerAt, History, walked, granted, releases, service, jobsBefore, Ready, Follows}
+use Rattle.runner.specs.History.{Inputs, stateAt, answerAt, History, walked, granted, releases, service, jobsBefore, Ready, Obeys}
 use Rattle.jobs.proofs.Rows.{row-at}
 use Rattle.jobs.proofs.Service.{says-chosen}
 use Rattle.runner.proofs.Same.{chosen-same, served-same, step-same}
@@ -170,7 +170,7 @@ module _ (t : Table) (ranged : Ranged t) (values : ℕ → List ℕ) (sets : ℕ
   pub history-well-formed : (N : ℕ) → History t values sets N → WellFormed t
   history-well-formed N h = well-formed t ranged (no-refusal t ranged values sets (h .start))
 
-  pub follows : Inputs values sets → (N : ℕ) → History t values sets N → Follows t values sets N
+  pub follows : Inputs values sets → (N : ℕ) → History t values sets N → Obeys t values sets N
   follows inputs N h =
       let before : (n : ℕ) → n < N → Meets t ranged values sets n = λ n l. meets N h n (omega arith) in
       record {

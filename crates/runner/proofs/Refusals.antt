@@ -17,7 +17,7 @@ use Rattle.table.proofs.Sentences.{count-rule}
 use Rattle.table.proofs.WellFormed.{judged-well-formed}
 use Rattle.runner.specs.declared.State.{State}
 use Rattle.runner.specs.State.{jobAt, isLawful, freshState, emptyState, unless, freshAnswer}
-use Rattle.runner.specs.Step.{earlyTask, stateRefusal, stepRefusal, stepped, refused, stepAnswer}
+use Rattle.runner.specs.Step.{earlyTask, stateRefusal, stepRefusal, stepped, refusedStep, stepAnswer}
 
 pub unless-given : {A : Type 0} (n : ℕ) (a b : A) → n ≡ 0 → unless n a b ≡ a
 unless-given n a b e = rw e
@@ -74,13 +74,13 @@ module _ (t : Table) (s : State) (set : ℕ) where
   unfolding stepRefusal
   table-passes e = unless-given (judged t .number) (stateRefusal t s set) (judged t) e
 
-  pub step-refused : (values : List ℕ) → (stepRefusal t s set .number ≡ 0 → ⊥) → stepAnswer t s values set ≡ refused (stepRefusal t s set) s
+  pub step-refused : (values : List ℕ) → (stepRefusal t s set .number ≡ 0 → ⊥) → stepAnswer t s values set ≡ refusedStep (stepRefusal t s set) s
   unfolding stepAnswer
-  step-refused values n = unless-refused (stepRefusal t s set .number) (stepped t s values set) (refused (stepRefusal t s set) s) n
+  step-refused values n = unless-refused (stepRefusal t s set .number) (stepped t s values set) (refusedStep (stepRefusal t s set) s) n
 
   pub step-given : (values : List ℕ) → stepRefusal t s set .number ≡ 0 → stepAnswer t s values set ≡ stepped t s values set
   unfolding stepAnswer
-  step-given values e = unless-given (stepRefusal t s set .number) (stepped t s values set) (refused (stepRefusal t s set) s) e
+  step-given values e = unless-given (stepRefusal t s set .number) (stepped t s values set) (refusedStep (stepRefusal t s set) s) e
 
   pub accepted-passes : stepRefusal t s set .number ≡ 0 → Passes t s set
   unfolding stepRefusal

@@ -4,8 +4,8 @@ use Rattle.laws.specs.Sum.{sum}
 use Rattle.laws.specs.Found.{first, best}
 use Rattle.laws.specs.Up.{upTo}
 use Rattle.runner.specs.Step.{stepped}
-use Rattle.runner.specs.Worked.{steps, Worked}
+use Rattle.runner.specs.Worked.{steps, WorkedSteps}
 
-pub worked : Worked
+pub worked-steps : WorkedSteps
 unfolding steps stepped upTo first best sum
-worked = record { in-time = refl; late = refl }
+worked-steps = record { in-time = refl; late = refl }

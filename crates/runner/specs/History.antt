@@ -63,9 +63,9 @@ jobsBefore t values sets = jobs (tasksOf t) (releases sets) (service t values)
 abbrev pub Ready : Table → (ℕ → List ℕ) → (ℕ → ℕ) → ℕ → ℕ → Type 0
 Ready t values sets n i = (i < t .tasks) × (tasksOf t .task i .gap ≤ jobsBefore t values sets n i .since)
 
--- N steps follow the theory: the place is the walk's, the jobs are the theory's, each step grants the walk's queue, serves whom
+-- N steps obey the theory: the place is the walk's, the jobs are the theory's, each step grants the walk's queue, serves whom
 -- earliest deadline first serves and names late whom the theory names late; and only what is ready is released.
-pub record Follows (t : Table) (values : ℕ → List ℕ) (sets : ℕ → ℕ) (N : ℕ) : Type 0 where
+pub record Obeys (t : Table) (values : ℕ → List ℕ) (sets : ℕ → ℕ) (N : ℕ) : Type 0 where
   pub lawful : (n : ℕ) → n ≤ N → Lawful t (stateAt t values sets n)
   pub place : (n : ℕ) → n ≤ N → positionOf (stateAt t values sets n) ≡ walked t values n
   pub job : (n i : ℕ) → n ≤ N → i < t .tasks → jobAt (stateAt t values sets n) i ≡ jobsBefore t values sets n i

@@ -65,8 +65,8 @@ stepped t s values set =
 -- ---- the answer
 
 -- Beside a refusal: the state that was given, and nothing else.
-abbrev pub refused : Refusal → State → StepAnswer
-refused r s = record { refusal = r; state = s; queue = 0; served = false; task = 0; late = 0 }
+abbrev pub refusedStep : Refusal → State → StepAnswer
+refusedStep r s = record { refusal = r; state = s; queue = 0; served = false; task = 0; late = 0 }
 
 unfoldable pub stepAnswer : Table → State → List ℕ → ℕ → StepAnswer
-stepAnswer t s values set = unless (stepRefusal t s set .number) (stepped t s values set) (refused (stepRefusal t s set) s)
+stepAnswer t s values set = unless (stepRefusal t s set .number) (stepped t s values set) (refusedStep (stepRefusal t s set) s)

@@ -11,8 +11,8 @@ use Rattle.runner.specs.State.{freshState}
 use Rattle.runner.specs.Step.{stepped}
 
 -- Table A, with deadline D.
-abbrev pub A : ℕ → Table
-A D = record {
+abbrev pub tableA : ℕ → Table
+tableA D = record {
   version = 1;
   queues = 2;
   period = 4;
@@ -43,10 +43,10 @@ steps t s (set ∷ sets) =
     let a = stepped t s (replicate 8 100) set in
     shown (a .queue) (a .served) (a .task) (a .late) ∷ steps t (a .state) sets
 
-pub record Worked : Type 0 where
+pub record WorkedSteps : Type 0 where
   -- steps 1 to 5, with task 0 released in steps 1 and 5
-  pub in-time : steps (A 4) (freshState (A 4)) (1 ∷ 0 ∷ 0 ∷ 0 ∷ 1 ∷ [])
+  pub in-time : steps (tableA 4) (freshState (tableA 4)) (1 ∷ 0 ∷ 0 ∷ 0 ∷ 1 ∷ [])
       ≡ (shown 1 true 0 0 ∷ shown 2 false 0 0 ∷ shown 2 false 0 0 ∷ shown 2 false 0 0 ∷ shown 1 true 0 0 ∷ [])
   -- with D 3 a release in step 2 is late in step 4
-  pub late : steps (A 3) (freshState (A 3)) (0 ∷ 1 ∷ 0 ∷ 0 ∷ [])
+  pub late : steps (tableA 3) (freshState (tableA 3)) (0 ∷ 1 ∷ 0 ∷ 0 ∷ [])
       ≡ (shown 1 false 0 0 ∷ shown 2 false 0 0 ∷ shown 2 false 0 0 ∷ shown 2 false 0 1 ∷ [])

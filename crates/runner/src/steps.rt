@@ -2,7 +2,7 @@
 ghost use mathlib.Core.Path.{_≡_};
 ghost use Rattle.table.specs.Rules.{WellFormed};
 ghost use Rattle.runner.specs.State.{Lawful};
-ghost use Rattle.runner.specs.Step.{stepRefusal, stepped, refused};
+ghost use Rattle.runner.specs.Step.{stepRefusal, stepped, refusedStep};
 use crate::State;
 use crate::StepAnswer;
 use crate::lawful;
@@ -65,7 +65,7 @@ pub fn accepted(state: State, table: Table, values: [u16; State::VARIABLES], set
 }
 
 pub fn refused(refusal: Refusal, state: State) -> StepAnswer
-    ensures { λ r. ⌜ r ≡ refused refusal state ⌝ }
+    ensures { λ r. ⌜ r ≡ refusedStep refusal state ⌝ }
 {
     StepAnswer {
         refusal: refusal,

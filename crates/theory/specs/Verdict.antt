@@ -18,7 +18,7 @@ pub record Short (G : Streams) (ts : Tasks) (q t demanded supply : ℕ) : Type 0
   pub exceeds : supply < demanded
   pub shortest : (w m : ℕ) → 1 ≤ w → w < t → Least G (is q) w m → demand ts q w ≤ m
 
--- t is the shortest window whose least supply is c.
+-- t is the shortest window whose least supply reaches c.
 pub record Wait (G : Streams) (p : ℕ → Bool) (c t : ℕ) : Type 0 where
   pub supply : ℕ
   pub supplies : Least G p t supply

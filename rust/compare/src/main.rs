@@ -16,6 +16,7 @@ mod trees;
 mod windows;
 
 use std::process::ExitCode;
+use std::thread;
 use std::time::Instant;
 
 use random::Random;
@@ -60,16 +61,26 @@ fn main() -> ExitCode {
     report(compare(seed, times))
 }
 
+/// Each part has a thread and random numbers of its own.
 fn compare(seed: u64, times: u64) -> Result<Tally, Difference> {
-    let mut tally = Tally::default();
-    for (i, (name, count, part)) in (0..).zip(PARTS) {
-        let mut random = Random::new(seed.wrapping_add(i));
-        let began = Instant::now();
-        for _ in 0..count * times {
-            part(&mut random, &mut tally)?;
+    thread::scope(|scope| {
+        let start = |(i, part)| scope.spawn(move || one_part(part, seed.wrapping_add(i), times));
+        let parts: Vec<_> = (0..).zip(PARTS).map(start).collect();
+        let mut tally = Tally::default();
+        for part in parts {
+            tally.add(part.join().expect("no part panics")?);
         }
-        println!("{name:12} {:6.1} s", began.elapsed().as_secs_f64());
+        Ok(tally)
+    })
+}
+
+fn one_part((name, count, part): Part, seed: u64, times: u64) -> Result<Tally, Difference> {
+    let (mut random, mut tally) = (Random::new(seed), Tally::default());
+    let began = Instant::now();
+    for _ in 0..count * times {
+        part(&mut random, &mut tally)?;
     }
+    println!("{name:12} {:6.1} s", began.elapsed().as_secs_f64());
     Ok(tally)
 }
 

@@ -100,6 +100,21 @@ impl Tally {
         *self.seen.entry(what).or_default() += times;
     }
 
+    /// Adds what another part has counted.
+    pub fn add(&mut self, other: Tally) {
+        for (question, Counts { accepted, refused }) in other.questions {
+            let counts = self.questions.entry(question).or_default();
+            counts.accepted += accepted;
+            counts.refused += refused;
+        }
+        for (number, times) in other.refusals {
+            *self.refusals.entry(number).or_default() += times;
+        }
+        for (what, times) in other.seen {
+            self.see(what, times);
+        }
+    }
+
     /// The kinds of refusal that were never seen.
     pub fn unseen(&self) -> Vec<&'static str> {
         let unseen = Kind::ALL.into_iter().filter(|kind| !self.refusals.contains_key(&kind.number()));

@@ -2,7 +2,7 @@
 use mathlib.Core.Path.{sym, ap, _∙_}
 use Rattle.table.specs.declared.Refusal.{Refusal}
 use Rattle.table.proofs.Ranged.{ranged}
-use Rattle.runner.specs.Step.{refused}
+use Rattle.runner.specs.Step.{refusedStep}
 use Rattle.runner.proofs.Agrees.{lawful-says}
 use Rattle.runner.proofs.Refusals.{well-formed, step-refused, step-given, accepted-passes}
 use borrow.Author.Needs.{needs}
@@ -19,7 +19,7 @@ returns : tie.Need-returns
 returns c =
     let a = c .before .before .before .before .args in
     let e = c .before .before .before .refusal .ensures in
-    c .refused .ensures ∙ (ap (λ r. refused r (a .self)) e ∙ sym (step-refused (a .table) (a .self) (a .released) (a .values) (λ z. c .before .if1 .taken (ap (λ (r : Refusal). r .number) e ∙ z))))
+    c .refused .ensures ∙ (ap (λ r. refusedStep r (a .self)) e ∙ sym (step-refused (a .table) (a .self) (a .released) (a .values) (λ z. c .before .if1 .taken (ap (λ (r : Refusal). r .number) e ∙ z))))
 
 accepted-requires : tie.Need-accepted-requires
 accepted-requires c κs =

@@ -28,8 +28,9 @@ pub fn fill(table: &Table, queue: u8, out: &mut [u32]) -> u32 {
     for (window, entry) in out.iter_mut().enumerate() {
         *entry = window as u32;
     }
-    corners.lower_within(out);
     corners.lower_across(out);
+    corners.stretch(out);
+    corners.lower_within(out);
     for i in (1..out.len()).rev() {
         out[i - 1] = out[i - 1].min(out[i]);
     }
@@ -68,7 +69,7 @@ impl Corners {
             }
             self.ends[v] = self.begins[v] + usize::from(l.ticks);
             self.opens[v] = v == 0 || (l.queue != queue && above.queue == queue);
-            self.closes[v] = l.queue != queue;
+            self.closes[v] = l.queue != queue && self.ends[v] < self.period;
             if v > 0 && l.queue != queue {
                 self.closes[parent] = false;
             }
@@ -102,15 +103,21 @@ impl Corners {
         }
     }
 
-    /// With no whole cycle between, and with one.
+    /// To a cycle's end, and across it to a location that ends before the next.
     fn lower_across(&self, out: &mut [u32]) {
         for a in (0..self.count).filter(|&a| self.opens[a]) {
             let ahead = self.period - self.begins[a];
+            lower(out, ahead, self.rest[a]);
             for v in (0..self.count).filter(|&v| self.closes[v]) {
-                let (ticks, least) = (ahead + self.ends[v], self.rest[a] + self.before[v]);
-                lower(out, ticks, least);
-                lower(out, ticks + self.period, least + self.rest[0]);
+                lower(out, ahead + self.ends[v], self.rest[a] + self.before[v]);
             }
+        }
+    }
+
+    /// The same with a whole cycle more, from the last entry on, so that each adds to what was there before.
+    fn stretch(&self, out: &mut [u32]) {
+        for i in (0..out.len()).rev() {
+            lower(out, i + self.period, out[i] + self.rest[0]);
         }
     }
 }

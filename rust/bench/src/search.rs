@@ -1,8 +1,9 @@
-//! One bound, verdict and wait over the filling by corners: the verdict goes from deadline to deadline.
+//! One bound, verdict and wait over the filling by corners: the verdict looks at blocks of windows, each from
+//! the next deadline on.
 
 use crate::corners;
 use crate::judge::is_well_formed;
-use domvurtesz::{Table, Task, Verdict};
+use domvurtesz::{Table, Verdict};
 
 const LONGEST_FILLING: usize = 2 * Table::PERIOD as usize;
 
@@ -51,34 +52,54 @@ pub fn wait(table: &Table, queue: u8, ticks: u32) -> Option<u32> {
 pub fn verdict(table: &Table, queue: u8) -> Option<Verdict> {
     let supply = Supply::of(table, queue)?;
     let multiple = common_multiple(table, queue)?;
-    let mut dues = table.task.map(|t| if t.queue == queue { u32::from(t.deadline) } else { u32::MAX });
-    dues[table.tasks..].fill(u32::MAX);
-    let (mut demand, mut window) = (0, earliest(&dues));
-    while window <= multiple {
-        demand += pass(&mut dues, table.counted_tasks(), window);
-        let supply = supply.at(window);
-        if demand > supply {
-            return Some(Verdict::Short { window, demand, supply });
+    let mut own = Deadlines::of(table, queue);
+    let (mut demand, mut start) = (0, 1);
+    while start <= multiple {
+        let (block, next) = own.pass(start);
+        for (window, work) in (start..).zip(block).filter(|&(_, work)| work != 0) {
+            demand += work;
+            let supply = supply.at(window);
+            if demand > supply {
+                return Some(Verdict::Short { window, demand, supply });
+            }
         }
-        window = earliest(&dues);
+        start = next;
     }
     Some(Verdict::Meets)
 }
 
-fn earliest(dues: &[u32]) -> u32 {
-    dues.iter().copied().fold(u32::MAX, u32::min)
+/// So many windows are looked at together.
+const BLOCK: usize = 64;
+
+/// The next deadline, the gap and the work of each of a queue's own tasks.
+struct Deadlines {
+    count: usize,
+    tasks: [(u32, u32, u32); Table::TASKS],
 }
 
-/// The work that is due now; its tasks are due again a gap later.
-fn pass(dues: &mut [u32], tasks: &[Task], now: u32) -> u32 {
-    let mut work = 0;
-    for (due, task) in dues.iter_mut().zip(tasks) {
-        if *due == now {
-            *due += u32::from(task.gap);
-            work += u32::from(task.work);
+impl Deadlines {
+    fn of(table: &Table, queue: u8) -> Deadlines {
+        let mut own = Deadlines { count: 0, tasks: [(0, 0, 0); Table::TASKS] };
+        for task in table.counted_tasks().iter().filter(|task| task.queue == queue) {
+            own.tasks[own.count] = (task.deadline.into(), task.gap.into(), task.work.into());
+            own.count += 1;
         }
+        own
     }
-    work
+
+    /// The work that is due in each window of the block that begins at `start`, and the next deadline after it.
+    fn pass(&mut self, start: u32) -> ([u32; BLOCK], u32) {
+        let mut block = [0; BLOCK];
+        let mut next = u32::MAX;
+        for (due, gap, work) in &mut self.tasks[..self.count] {
+            while *due < start + BLOCK as u32 {
+                block[(*due - start) as usize] += *work;
+                *due += *gap;
+            }
+            next = next.min(*due);
+        }
+        (block, next)
+    }
 }
 
 /// Of the period and the gaps of the queue's tasks; nothing where it is above 1,000,000.

@@ -23,7 +23,7 @@ use Rattle.table.specs.Rules.{WellFormed}
 use Rattle.table.specs.Columns.{parentColumn, ticksColumn, entry, zeros}
 use Rattle.table.proofs.Copied.{column-entry}
 use Rattle.bounds.specs.Flagged.{flagColumn, asks}
-use Rattle.filling.specs.Lent.{lentTree, Lent}
+use Rattle.corners.specs.Lent.{lentTree, Lent}
 use Rattle.slice.specs.Changes.{Becomes}
 
 -- ---- what the flags ask

@@ -1,7 +1,7 @@
 // Answers as words, each after a blank.
 use bounds::TicksAnswer;
+use search::VerdictAnswer;
 use table::Refusal;
-use verdict::VerdictAnswer;
 use words::number;
 use words::text;
 

@@ -7,7 +7,7 @@ ghost use lib.ListN.{length};
 use crate::answers::refused;
 use crate::numbers::number16;
 use crate::numbers::number32;
-use jobs::Job;
+use job::Job;
 use runner::State;
 use runner::StepAnswer;
 use table::Refusal;

@@ -2,4 +2,3 @@
 pub mod NextDeadlines
 pub mod OwnTasks
 pub mod Blocks
-pub mod Multiples

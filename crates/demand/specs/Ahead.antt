@@ -1,19 +1,13 @@
--- The multiple up to its limit, a queue's deadlines in columns, and the work of a block of windows.
+-- A queue's deadlines in columns, and the work of a block of windows.
 use mathlib.Core.Path.{_≡_}
 use mathlib.Core.List.{List}
-use Prim.Native.Nat.{ℕ, suc, _+_, _-_, _≤_, _<_, min}
+use Prim.Native.Nat.{ℕ, suc, _+_, _-_, _≤_, _<_}
 use lib.ListN.{length}
 use Rattle.laws.specs.Sum.{sum}
 use Rattle.theory.specs.Task.{Task, LawfulTask, demandOf, demand}
 use Rattle.table.specs.declared.Table.{Table}
 use Rattle.table.specs.Table.{tasksOf}
 use Rattle.table.specs.Columns.{entry}
-
--- ---- the multiple
-
--- A number up to the verdict's limit, and 1,000,001 for every one above.
-abbrev pub limited : ℕ → ℕ
-limited L = min L 1000001
 
 -- ---- deadlines in columns
 

@@ -1,6 +1,4 @@
--- Laws of columns, in reading order.
+-- Laws of walks over columns, in reading order.
 pub mod Walking
-pub mod Closing
-pub mod Resting
 pub mod Crossing
 pub mod Decided

@@ -1,3 +1,2 @@
--- What lent columns mean, and which points lower the slice.
-pub mod Lent
+-- Which points lower the slice.
 pub mod Sets

@@ -6,7 +6,7 @@ use Prim.Native.Nat.{ℕ, _+_, _-_}
 use Rattle.theory.specs.Points.{Above}
 use Rattle.table.specs.Columns.{entry}
 use Rattle.slice.specs.Changes.{Lowers, Marked, Until, Longer}
-use Rattle.filling.specs.Lent.{lentTree}
+use Rattle.corners.specs.Lent.{lentTree}
 
 -- From the first tick of a marked location that is a or above a, up to `end`.
 abbrev pub Upward : List ℕ → List ℕ → List ℕ → List ℕ → ℕ → ℕ → ℕ → ℕ → ℕ → Type 0

@@ -4,16 +4,16 @@ ghost use Prim.Native.Nat.{_-_, _*_, _≤_};
 ghost use lib.ListN.{length};
 ghost use Rattle.theory.specs.Grants.{is};
 ghost use Rattle.theory.specs.Cycles.{system, cycleLeast, leastOf};
-ghost use Rattle.filling.specs.Lent.{Lent, lentTree};
+ghost use Rattle.corners.specs.Lent.{Lent, lentTree};
 ghost use Rattle.slice.specs.Changes.{Becomes};
+use corners::marks;
+use corners::rest;
+use corners::sums;
 use slice::numbers;
 use slice::passes;
 use table::Table;
 
-mod corners;
-mod rest;
-mod sums;
-mod walks;
+mod walks; // walks.rt: the points that lower the slice
 
 pub fn leasts(
     out: &mut [u32],
@@ -35,8 +35,8 @@ pub fn leasts(
     let ends = sums::ends(&begins, ticks, n);
     let counts = sums::sums(parents, &owns, n);
     let rests = rest::rests(parents, ticks, flags, pass, n, period);
-    let opens = corners::opens(parents, flags, pass, n);
-    let closes = corners::closes(parents, flags, &ends, pass, n, period);
+    let opens = marks::opens(parents, flags, pass, n);
+    let closes = marks::closes(parents, flags, &ends, pass, n, period);
     passes::ramp(out, last);
     walks::corners(
         out,

@@ -4,7 +4,7 @@ ghost use Prim.Native.Nat.{_+_, _<_, _≤_};
 ghost use lib.ListN.{length};
 ghost use Rattle.laws.proofs.Climb.{Falls};
 ghost use Rattle.table.specs.Columns.{entry};
-ghost use Rattle.filling.specs.Lent.{Precedes, Rises, Below};
+ghost use Rattle.corners.specs.Lent.{Precedes, Rises, Below};
 ghost use Rattle.slice.specs.Changes.{Lowers, Until};
 ghost use Rattle.filling.specs.Sets.{Upward, Inner, Onward, Across, Corners};
 use slice::numbers;

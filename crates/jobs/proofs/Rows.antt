@@ -7,8 +7,9 @@ use lib.ListN.{length, getD, set, replicate, getD-replicate, List·getD-eq-defau
 use Rattle.laws.proofs.Test.{le-or-lt}
 use Rattle.laws.proofs.Up.{up-none, up-next, up-length, up-at, up-later, up-same}
 use Rattle.theory.specs.Job.{Job}
-use Rattle.jobs.specs.declared.Job.{Job as Entry}
-use Rattle.jobs.specs.Entries.{jobOf, entryOf, noJob, row}
+use Rattle.job.specs.declared.Job.{Job as Entry}
+use Rattle.job.specs.Entry.{jobOf, entryOf, noJob}
+use Rattle.jobs.specs.Entries.{row}
 
 zeros : (i : ℕ) → getD (replicate 32 noJob) i noJob ≡ noJob
 zeros i = elim (le-or-lt 32 i) [ inl l ↦ List·getD-eq-default (replicate 32 noJob) noJob {n = i} l | inr l ↦ getD-replicate 32 i noJob noJob l ]

@@ -6,7 +6,7 @@ use native.Mathlib.Omega.{arith}
 use lib.Dec.{ltb}
 use Rattle.laws.specs.Found.{Found, nobody, at, found, better, best, IsBest}
 use Rattle.laws.proofs.Best.{best-is}
-use Rattle.jobs.specs.declared.rules.Choice.{Choice}
+use Rattle.jobs.specs.declared.Choice.{Choice}
 use Rattle.jobs.specs.Entries.{choiceOf, chosenBy}
 
 pub found-yes : (b : Bool) (n : ℕ) (o : Found) → b ≡ true → found b n o ≡ at n

@@ -9,19 +9,9 @@ use Rattle.theory.specs.Job.{Job, serve, age}
 use Rattle.theory.specs.Steps.{names}
 use Rattle.table.specs.declared.Table.{Table}
 use Rattle.table.specs.Table.{tasksOf}
-use Rattle.jobs.specs.declared.Job.{Job as Entry}
-use Rattle.jobs.specs.declared.rules.Choice.{Choice}
-
--- An entry of a state as the theory's job, and back.
-abbrev pub jobOf : Entry → Job
-jobOf j = record { since = j .since; remaining = j .remaining; left = j .left }
-
-abbrev pub entryOf : Job → Entry
-entryOf j = record { since = j .since; remaining = j .remaining; left = j .left }
-
--- An entry of zeros.
-abbrev pub noJob : Entry
-noJob = record { since = 0; remaining = 0; left = 0 }
+use Rattle.job.specs.declared.Job.{Job as Entry}
+use Rattle.job.specs.Entry.{jobOf, entryOf, noJob}
+use Rattle.jobs.specs.declared.Choice.{Choice}
 
 -- Task i's job.
 abbrev pub jobIn : List Entry → ℕ → Job

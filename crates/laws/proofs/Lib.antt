@@ -1,5 +1,7 @@
--- The laws of the definitions in specs/, under the same names.
+-- Laws of tests and of parts of a slice; then those of the definitions in specs/, under the same names.
 pub mod Test
+pub mod Cases
+pub mod Parts
 pub mod Sum
 pub mod Minimum
 pub mod First

@@ -1,9 +1,9 @@
 // Prints the listing of the record on standard input (docs/RULES.md, The listing).
 use libc::STDIN_FILENO;
+use search::VerdictAnswer;
 use table::Refusal;
 use table::Table;
 use table::paths;
-use verdict::VerdictAnswer;
 use words::number;
 use words::text;
 

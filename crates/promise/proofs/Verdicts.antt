@@ -15,7 +15,7 @@ use Rattle.table.specs.declared.Table.{Table}
 use Rattle.table.specs.Table.{taskAt}
 use Rattle.table.specs.Rules.{WellFormed}
 use Rattle.table.specs.Ranged.{Ranged}
-use Rattle.verdict.specs.declared.VerdictAnswer.{VerdictAnswer}
+use Rattle.search.specs.declared.VerdictAnswer.{VerdictAnswer}
 use Rattle.verdict.specs.Questions.{horizonRefusal, VerdictAnswers}
 use Rattle.runner.specs.History.{Inputs, answerAt, History}
 use Rattle.promise.proofs.Meets.{never-late}

@@ -1,6 +1,6 @@
 -- Reading by cases, one law for each case of the definitions: the header, one field more, the end, and the judge. A proof of code
 -- that reads cites these and never opens the definitions. Assumes nothing.
-use mathlib.Core.Path.{_≡_, refl, sym, ap, _∙_}
+use mathlib.Core.Path.{_≡_, sym, ap, _∙_}
 use mathlib.Core.Bool.{Bool, true, false, not}
 use mathlib.Core.List.{List}
 use Prim.Native.Nat.{ℕ, zero, suc, _+_, _≤_, _<_}
@@ -10,28 +10,13 @@ use lib.Dec.{T, leb, nleb→lt, ltb, lt→ltb, nltb→le}
 use lib.Arith.{lt→nleb, le→nltb}
 use Rattle.laws.specs.Test.{pick}
 use Rattle.laws.proofs.Test.{pick-yes, pick-no}
+use Rattle.laws.proofs.Cases.{zero-case, suc-case, true-case, false-case}
 use Rattle.table.specs.declared.Table.{Table}
 use Rattle.table.specs.Rules.{refusal, judged}
 use Rattle.record.specs.declared.ReadAnswer.{ReadAnswer}
-use Rattle.record.specs.Format.{headerOf, locationOf, taskOf}
-use Rattle.record.specs.Reading.{refused, accepted, isField, left, headerNumber, isLocation, isTask, fieldNumber, withLocation, withTask, fieldsFrom, mostFields, fieldsOf, readOf}
-
--- ---- a test and a number, by cases
-
-true-case : (b : Bool) (x y : ReadAnswer) → T b → elim b as (λ (c : Bool). ReadAnswer) [ true ↦ x | false ↦ y ] ≡ x
-true-case true x y t = refl
-true-case false x y t = absurd t
-
-false-case : (b : Bool) (x y : ReadAnswer) → T (not b) → elim b as (λ (c : Bool). ReadAnswer) [ true ↦ x | false ↦ y ] ≡ y
-false-case true x y t = absurd t
-false-case false x y t = refl
-
-zero-case : (n : ℕ) (x : ReadAnswer) (f : ℕ → ReadAnswer) → n ≡ 0 → elim n as (λ (k : ℕ). ReadAnswer) [ zero ↦ x | suc m ↦ f (suc m) ] ≡ x
-zero-case n x f e = rw e
-
-suc-case : (n : ℕ) (x : ReadAnswer) (f : ℕ → ReadAnswer) → ¬ (n ≡ 0) → elim n as (λ (k : ℕ). ReadAnswer) [ zero ↦ x | suc m ↦ f (suc m) ] ≡ f n
-suc-case zero x f h = absurd (h refl)
-suc-case (suc n) x f h = refl
+use Rattle.format.specs.Format.{headerOf, locationOf, taskOf}
+use Rattle.format.specs.Tests.{isField, left, headerNumber, isLocation, isTask, fieldNumber}
+use Rattle.record.specs.Reading.{refused, accepted, withLocation, withTask, fieldsFrom, mostFields, fieldsOf, readOf}
 
 -- a number of refusal that is 0: the test in front of it
 passed : (b : Bool) (n x : ℕ) → pick b (suc n) x ≡ 0 → T (not b) × (x ≡ 0)

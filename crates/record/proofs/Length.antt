@@ -9,9 +9,10 @@ use Rattle.laws.proofs.Test.{either, le-or-lt}
 use Rattle.table.specs.declared.Table.{Table}
 use Rattle.table.specs.Rules.{judged}
 use Rattle.record.specs.declared.ReadAnswer.{ReadAnswer}
-use Rattle.record.specs.Format.{recordLength}
-use Rattle.record.specs.Reading.{left, isLocation, headerNumber, fieldNumber, fieldsFrom, mostFields, fieldsOf, readOf}
-use Rattle.record.proofs.Cases.{zero-or-not}
+use Rattle.format.specs.Format.{recordLength}
+use Rattle.format.specs.Tests.{left, isLocation, headerNumber, fieldNumber}
+use Rattle.record.specs.Reading.{fieldsFrom, mostFields, fieldsOf, readOf}
+use Rattle.laws.proofs.Cases.{zero-or-not}
 use Rattle.record.proofs.Fields.{header-refused, header-fine, header-met, location-met, task-met, location-read, task-read, field-refused, end-without-location, end-read, read-refused, read-judged, read-accepted}
 
 -- a field that is not refused has its tag and length

@@ -1,6 +1,4 @@
 -- Laws of the definitions in specs/, in reading order.
-pub mod Cases
-pub mod Parts
 pub mod Pieces
 pub mod Places
 pub mod Fields

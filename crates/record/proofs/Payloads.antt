@@ -12,7 +12,7 @@ use Rattle.table.specs.declared.Location.{Location}
 use Rattle.table.specs.declared.Task.{Task}
 use Rattle.table.specs.declared.Table.{Table}
 use Rattle.table.specs.Ranged.{RangedLocation, RangedTask}
-use Rattle.record.specs.Format.{number16, highByte, lowByte, headerBytes, locationBytes, taskBytes, headerOf, locationOf, taskOf}
+use Rattle.format.specs.Format.{number16, highByte, lowByte, headerBytes, locationBytes, taskBytes, headerOf, locationOf, taskOf}
 
 -- ---- numbers
 

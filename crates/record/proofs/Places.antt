@@ -12,8 +12,7 @@ use lib.Arith.{lt→nleb}
 use Rattle.laws.proofs.Test.{le-or-lt, eqb-of, neqb-of, pick-yes, pick-no}
 use Rattle.table.specs.declared.Table.{Table}
 use Rattle.table.specs.Table.{locationAt, taskAt, Same}
-use Rattle.record.specs.Format.{headerBytes, locationBytes, taskBytes, highByte, lowByte, headerField, locationField, taskField, locationFields, taskFields, recordOf, locationOffset, taskOffset, recordLength}
-use Rattle.record.specs.Field.{payloadOffset, payloadLength, fieldCount}
+use Rattle.format.specs.Format.{headerBytes, locationBytes, taskBytes, highByte, lowByte, headerField, locationField, taskField, locationFields, taskFields, recordOf, locationOffset, taskOffset, recordLength, payloadOffset, payloadLength, fieldCount}
 use Rattle.record.proofs.Pieces.{row, row-same, length-row, piece-at}
 
 -- ---- rows

@@ -3,12 +3,13 @@ use mathlib.Core.Path.{_≡_, _∙_}
 use mathlib.Core.List.{List}
 use Prim.Native.Nat.{ℕ, _≤_, _<_}
 use native.Mathlib.Omega.{arith}
-use lib.Dec.{leb}
-use borrow.Author.Tests.{le-leb, lt-leb}
+use lib.Dec.{leb, le→leb}
+use lib.Arith.{lt→nleb}
+use Rattle.laws.proofs.Cases.{zero-case, suc-case, true-case, false-case}
 use Rattle.table.specs.Rules.{refusal, fine}
+use Rattle.format.specs.Format.{payloadOffset, payloadLength, fieldCount}
 use Rattle.record.specs.Reading.{readOf}
-use Rattle.record.specs.Field.{payloadOffset, payloadLength, fieldCount, fieldRefusal, partOffset, partLength}
-use Rattle.record.proofs.Cases.{zero-case, suc-case, true-case, false-case}
+use Rattle.record.specs.Field.{fieldRefusal, partOffset, partLength}
 
 module _ (s : List ℕ) (k : ℕ) where
   pub asked-unread : (readOf s .refusal .number ≡ 0 → ⊥) → fieldRefusal s k ≡ readOf s .refusal
@@ -20,13 +21,13 @@ module _ (s : List ℕ) (k : ℕ) where
     unfolding fieldRefusal
     asked-past l =
         zero-case (readOf s .refusal .number) _ (λ n. readOf s .refusal) e
-        ∙ true-case (leb (fieldCount (readOf s .table)) k) _ _ (le-leb _ _ l)
+        ∙ true-case (leb (fieldCount (readOf s .table)) k) _ _ (le→leb _ _ l)
 
     pub asked-given : k < fieldCount (readOf s .table) → fieldRefusal s k ≡ fine
     unfolding fieldRefusal
     asked-given l =
         zero-case (readOf s .refusal .number) _ (λ n. readOf s .refusal) e
-        ∙ false-case (leb (fieldCount (readOf s .table)) k) _ _ (lt-leb _ _ l)
+        ∙ false-case (leb (fieldCount (readOf s .table)) k) _ _ (lt→nleb _ _ l)
 
   pub part-refused : (fieldRefusal s k .number ≡ 0 → ⊥) → (partOffset s k ≡ 0) × (partLength s k ≡ 0)
   unfolding partOffset partLength

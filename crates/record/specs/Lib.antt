@@ -1,4 +1,3 @@
--- The format of a record, and what reading and the field question answer.
-pub mod Format
+-- What reading and the field question answer.
 pub mod Reading
 pub mod Field

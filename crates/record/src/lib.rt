@@ -1,9 +1,6 @@
 // The record of a table as bytes: reading it, and the question for one field (docs/RULES.md, The record).
-mod bytes; // bytes.rt: numbers of two bytes
-pub mod format; // format.rt: tags and lengths
 mod front; // front.rt: the fields from the front
 mod payload; // payload.rt: what a payload holds
-mod refusals; // refusals.rt: the tests at one field
 
 ghost use mathlib.Core.Path.{_≡_};
 ghost use Prim.Native.Nat.{_+_};

@@ -2,8 +2,8 @@
 ghost use mathlib.Core.Path.{_≡_};
 ghost use Prim.Native.Nat.{_≤_};
 ghost use lib.ListN.{length};
-ghost use Rattle.record.specs.Format.{headerOf, locationOf, taskOf};
-use crate::bytes::number16;
+ghost use Rattle.format.specs.Format.{headerOf, locationOf, taskOf};
+use format::bytes::number16;
 use table::Location;
 use table::Table;
 use table::Task;

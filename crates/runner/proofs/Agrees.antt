@@ -12,7 +12,7 @@ use Rattle.table.specs.declared.Table.{Table}
 use Rattle.table.specs.Table.{treeOf, tasksOf}
 use Rattle.table.proofs.Flags.{not-not}
 use Rattle.runner.specs.declared.State.{State}
-use Rattle.jobs.specs.Entries.{jobOf, noJob}
+use Rattle.job.specs.Entry.{jobOf, noJob}
 use Rattle.runner.specs.State.{jobAt, Lawful, isIdle, isOpen, isLawfulJob, isZero, unlawful, leftOver, isLawful}
 
 -- ---- one job

@@ -19,7 +19,7 @@ use Rattle.table.specs.Table.{treeOf, tasksOf}
 use Rattle.table.specs.Rules.{fine, WellFormed}
 use Rattle.table.specs.Ranged.{Ranged}
 use Rattle.runner.specs.declared.State.{State}
-use Rattle.jobs.specs.Entries.{jobOf}
+use Rattle.job.specs.Entry.{jobOf}
 use Rattle.runner.specs.State.{jobAt, positionOf, stateOf, Lawful, freshState, freshAnswer}
 use Rattle.runner.specs.Step.{valueAt, stepRefusal, stepped, stepAnswer}
 use Rattle.jobs.proofs.Rows.{row-at, row-past}

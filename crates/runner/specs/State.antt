@@ -11,7 +11,8 @@ use Rattle.theory.specs.Job.{Job, fresh, LawfulJob}
 use Rattle.table.specs.declared.Table.{Table}
 use Rattle.table.specs.Table.{treeOf, tasksOf}
 use Rattle.table.specs.Rules.{judged}
-use Rattle.jobs.specs.Entries.{jobOf, noJob, jobIn, row}
+use Rattle.job.specs.Entry.{jobOf, noJob}
+use Rattle.jobs.specs.Entries.{jobIn, row}
 use Rattle.runner.specs.declared.State.{State}
 use Rattle.runner.specs.declared.FreshAnswer.{FreshAnswer}
 

@@ -6,12 +6,12 @@ ghost use lib.Dec.{ltb};
 ghost use Rattle.laws.specs.Test.{none};
 ghost use Rattle.table.specs.Rules.{fine, refuse};
 ghost use Rattle.table.specs.Table.{asTask};
-ghost use Rattle.jobs.specs.Entries.{jobOf, jobIn};
+ghost use Rattle.job.specs.Entry.{jobOf};
+ghost use Rattle.jobs.specs.Entries.{jobIn};
 ghost use Rattle.runner.specs.State.{isIdle, isOpen, isLawfulJob, isZero, unlawful, leftOver, isLawful};
 ghost use Rattle.runner.specs.Step.{earlyTask};
 use crate::State;
-use jobs::Job;
-use jobs::one;
+use job::Job;
 use table::Refusal;
 use table::Table;
 use table::Task;
@@ -130,7 +130,7 @@ pub fn early(entries: [Job; Table::TASKS], table: Table, set: u32) -> Refusal
     let n = table.tasks;
     let mut i: usize = 0;
     while i < Table::TASKS {
-        if is_early(one::is_in(set, i), n <= i, entries[i], table.task[i]) {
+        if is_early(job::is_in(set, i), n <= i, entries[i], table.task[i]) {
             return Refusal {
                 number: Refusal::EARLY,
                 place: i,

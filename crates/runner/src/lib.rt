@@ -2,8 +2,7 @@
 ghost use mathlib.Core.Path.{_≡_};
 ghost use Rattle.runner.specs.State.{emptyState, freshAnswer};
 ghost use Rattle.runner.specs.Step.{stepAnswer};
-use jobs::Job;
-use jobs::rules;
+use job::Job;
 use table::Refusal;
 use table::Table;
 
@@ -42,7 +41,7 @@ impl State {
     fn empty() -> State
         ensures { λ r. ⌜ r ≡ emptyState ⌝ }
     {
-        let jobs = rules::no_jobs();
+        let jobs = jobs::no_jobs();
         State {
             location: 0,
             done: 0,
@@ -61,7 +60,7 @@ impl State {
                 state: State::empty(),
             };
         }
-        let jobs = rules::fresh(table);
+        let jobs = jobs::fresh(table);
         let state = State {
             location: 0,
             done: 0,

@@ -8,7 +8,6 @@ use crate::StepAnswer;
 use crate::lawful;
 use crate::places;
 use crate::places::Place;
-use jobs::rules;
 use table::Refusal;
 use table::Table;
 use table::paths;
@@ -39,11 +38,11 @@ pub fn accepted(state: State, table: Table, values: [u16; State::VARIABLES], set
     let v = paths::number(state.location);
     let queue = table.location[v].queue;
     let entries = state.jobs;
-    let waiting = rules::release(entries, table, set);
-    let choice = rules::earliest(waiting, table, queue);
-    let aged = rules::age(waiting, table, choice);
-    let late = rules::late_set(aged, table.tasks);
-    let jobs = rules::drop(aged, table.tasks);
+    let waiting = jobs::release(entries, table, set);
+    let choice = jobs::earliest(waiting, table, queue);
+    let aged = jobs::age(waiting, table, choice);
+    let late = jobs::late_set(aged, table.tasks);
+    let jobs = jobs::drop(aged, table.tasks);
     let here = Place {
         location: state.location,
         done: state.done,

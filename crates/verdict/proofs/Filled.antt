@@ -15,7 +15,7 @@ use Rattle.table.specs.Ranged.{Ranged}
 use Rattle.bounds.specs.declared.CycleAnswer.{CycleAnswer}
 use Rattle.bounds.specs.Questions.{queueRefusal, fillRefusal, CycleAnswers, Fills}
 use Rattle.bounds.proofs.Refused.{Passes, queue-asked}
-use Rattle.verdict.specs.Parts.{Supplied}
+use Rattle.search.specs.Supply.{Supplied}
 use Rattle.verdict.proofs.InOrder.{fill-asked}
 
 -- what is known once the slice is filled, or not

@@ -7,20 +7,18 @@ use native.Mathlib.Omega.{arith}
 use lib.Dec.{T, T-not, not-T, leb, le→leb, leb→le, ltb, lt→ltb, eqb}
 use lib.Arith.{le→nltb}
 use Rattle.laws.proofs.Test.{and-left, and-right, and-both, eqb-of, neqb-of}
-use Rattle.theory.specs.Tree.{grants}
-use Rattle.theory.specs.Verdict.{Meets, Short}
 use Rattle.theory.specs.Search.{lcmOf}
 use Rattle.table.specs.declared.Table.{Table}
 use Rattle.table.specs.declared.Refusal.{Refusal}
-use Rattle.table.specs.Table.{treeOf, tasksOf}
+use Rattle.table.specs.Table.{tasksOf}
 use Rattle.table.specs.Rules.{within, refusal, fine, judged}
 use Rattle.table.specs.Ranged.{Ranged}
 use Rattle.bounds.specs.declared.TicksAnswer.{TicksAnswer}
 use Rattle.bounds.specs.Questions.{refuseIf, also, queueRefusal, fillRefusal, Answer}
 use Rattle.bounds.proofs.Refused.{Passes, passes-or, also-refused, also-passed, also-none, queue-asked}
-use Rattle.verdict.specs.declared.VerdictAnswer.{VerdictAnswer}
-use Rattle.verdict.specs.Questions.{horizonRefusal, amountRefusal, waitRefusal, Verdict, VerdictAnswers}
-use Rattle.verdict.specs.Parts.{refusedAnswer, meetsAnswer, shortAnswer}
+use Rattle.search.specs.declared.VerdictAnswer.{VerdictAnswer}
+use Rattle.search.specs.Answers.{refusedAnswer, Verdict}
+use Rattle.verdict.specs.Questions.{horizonRefusal, amountRefusal, waitRefusal, VerdictAnswers}
 
 -- ---- one after the other
 
@@ -65,9 +63,6 @@ module _ (t : Table) (q : ℕ) where
 
 -- ---- answers
 
-true-not-false : true ≡ false → ⊥
-true-not-false e = let z : _≡_ {A = ℕ} 0 1 = cc in omega arith
-
 -- zeros beside a refusal
 pub refused-answer : (r : Refusal) (A : ℕ → Type 0) (a : TicksAnswer) → ¬ Passes r → a .refusal ≡ r → a .ticks ≡ 0 → Answer r A a
 refused-answer r A a n e z = record { refusal = e; says = λ p. absurd (n p); silent = λ p. z }
@@ -87,14 +82,6 @@ verdict-refused t q a r h n e =
 
 pub verdict-given : (t : Table) (q : ℕ) (a : VerdictAnswer) → horizonRefusal t q ≡ fine → a .refusal ≡ fine → Verdict t q a → VerdictAnswers t q a
 verdict-given t q a h e v = record { refusal = e ∙ sym h; says = λ p. v; silent = λ n. absurd (n (ap (λ (s : Refusal). s .number) h)) }
-
-pub verdict-meets : (t : Table) (q : ℕ) (a : VerdictAnswer) → a ≡ meetsAnswer → Meets (grants (treeOf t)) (tasksOf t) q → (a .refusal ≡ fine) × Verdict t q a
-verdict-meets t q a e h = rw e (refl, record { meets = λ z. h; zeros = λ z. (refl, refl, refl); short = λ z. absurd (true-not-false z) })
-
-pub verdict-short : (t : Table) (q : ℕ) (a : VerdictAnswer) (w d s : ℕ) → a ≡ shortAnswer w d s → Short (grants (treeOf t)) (tasksOf t) q w d s
-    → (a .refusal ≡ fine) × Verdict t q a
-verdict-short t q a w d s e h =
-    rw e (refl, record { meets = λ z. absurd (true-not-false (sym z)); zeros = λ z. absurd (true-not-false (sym z)); short = λ z. h })
 
 -- a number that is refused
 pub refuses : (r : Refusal) (n : ℕ) → 0 < n → r ≡ refusal n 0 → ¬ Passes r

@@ -15,8 +15,9 @@ use Rattle.bounds.specs.declared.TicksAnswer.{TicksAnswer}
 use Rattle.bounds.specs.Questions.{queueRefusal, Answer}
 use Rattle.bounds.proofs.Refused.{passes-or}
 use Rattle.bounds.proofs.Unique.{answer-same}
-use Rattle.verdict.specs.declared.VerdictAnswer.{VerdictAnswer}
-use Rattle.verdict.specs.Questions.{horizonRefusal, waitRefusal, Zeros, Verdict, VerdictAnswers, WaitAnswer}
+use Rattle.search.specs.declared.VerdictAnswer.{VerdictAnswer}
+use Rattle.search.specs.Answers.{Zeros, Verdict}
+use Rattle.verdict.specs.Questions.{horizonRefusal, waitRefusal, VerdictAnswers, WaitAnswer}
 use Rattle.verdict.proofs.InOrder.{wait-asked}
 use Rattle.verdict.proofs.demand.Reads as demand-reads
 use Rattle.verdict.proofs.verdict.Reads as verdict-reads

@@ -1,3 +1,2 @@
--- What the questions answer, then what the functions below them hand back.
+-- What the questions answer.
 pub mod Questions
-pub mod Parts

@@ -1,12 +1,12 @@
 -- Demand, verdict and wait of a judged table: their refusals in order, and what an answer says.
 use mathlib.Core.Path.{_≡_}
-use mathlib.Core.Bool.{true, false, not}
+use mathlib.Core.Bool.{false, not}
 use Prim.Native.Nat.{ℕ}
 use lib.Dec.{eqb, ltb}
 use Rattle.theory.specs.Grants.{is}
 use Rattle.theory.specs.Tree.{grants, CycleLeast}
 use Rattle.theory.specs.Task.{demand}
-use Rattle.theory.specs.Verdict.{Meets, Short, Wait}
+use Rattle.theory.specs.Verdict.{Wait}
 use Rattle.theory.specs.Search.{lcmOf}
 use Rattle.table.specs.declared.Table.{Table}
 use Rattle.table.specs.declared.Refusal.{Refusal}
@@ -14,7 +14,8 @@ use Rattle.table.specs.Table.{treeOf, tasksOf}
 use Rattle.table.specs.Rules.{within}
 use Rattle.bounds.specs.declared.TicksAnswer.{TicksAnswer}
 use Rattle.bounds.specs.Questions.{also, queueRefusal, windowRefusal, Answer}
-use Rattle.verdict.specs.declared.VerdictAnswer.{VerdictAnswer}
+use Rattle.search.specs.declared.VerdictAnswer.{VerdictAnswer}
+use Rattle.search.specs.Answers.{Zeros, Verdict}
 
 -- ---- refusals
 
@@ -34,15 +35,6 @@ waitRefusal t q c cycle = also (amountRefusal t q c) (eqb cycle 0) 12
 
 abbrev pub DemandAnswer : Table → ℕ → ℕ → TicksAnswer → Type 0
 DemandAnswer t q w = Answer (windowRefusal t q w) (λ m. demand (tasksOf t) q w ≡ m)
-
-abbrev pub Zeros : VerdictAnswer → Type 0
-Zeros a = (a .window ≡ 0) × (a .demand ≡ 0) × (a .supply ≡ 0)
-
--- MEETS and zeros, or SHORT with the shortest window, its demand and its supply.
-pub record Verdict (t : Table) (q : ℕ) (a : VerdictAnswer) : Type 0 where
-  pub meets : a .meets ≡ true → Meets (grants (treeOf t)) (tasksOf t) q
-  pub zeros : a .meets ≡ true → Zeros a
-  pub short : a .meets ≡ false → Short (grants (treeOf t)) (tasksOf t) q (a .window) (a .demand) (a .supply)
 
 -- Refused, or the verdict; zeros beside a refusal.
 pub record VerdictAnswers (t : Table) (q : ℕ) (a : VerdictAnswer) : Type 0 where

@@ -2,73 +2,14 @@
 ghost use mathlib.Core.Path.{_≡_};
 ghost use Rattle.table.specs.Rules.{refusal};
 ghost use Rattle.verdict.specs.Questions.{DemandAnswer, VerdictAnswers, WaitAnswer};
-ghost use Rattle.verdict.specs.Parts.{refusedAnswer, meetsAnswer, shortAnswer};
 use bounds::TicksAnswer;
 use bounds::refusals;
 use demand::due;
-use demand::multiple;
+use search::VerdictAnswer;
+use search::verdicts;
+use search::waits;
 use table::Refusal;
 use table::Table;
-
-mod search;
-mod waits;
-
-// MEETS, or the shortest window in which demand exceeds the least supply. Zeros beside a refusal and beside MEETS.
-#[repr(C)]
-pub struct VerdictAnswer {
-    pub refusal: Refusal,
-    pub meets: bool,
-    pub window: u32,
-    pub demand: u32,
-    pub supply: u32,
-}
-
-impl VerdictAnswer {
-    // Room for the filling of the longest period.
-    pub const FILLING: usize = 2048;
-
-    fn refused(refusal: Refusal) -> VerdictAnswer
-        ensures { λ r. ⌜ r ≡ refusedAnswer refusal ⌝ }
-    {
-        VerdictAnswer {
-            refusal: refusal,
-            meets: false,
-            window: 0,
-            demand: 0,
-            supply: 0,
-        }
-    }
-
-    fn met() -> VerdictAnswer
-        ensures { λ r. ⌜ r ≡ meetsAnswer ⌝ }
-    {
-        VerdictAnswer {
-            refusal: Refusal {
-                number: Refusal::NONE,
-                place: 0,
-            },
-            meets: true,
-            window: 0,
-            demand: 0,
-            supply: 0,
-        }
-    }
-
-    fn short(window: u32, demand: u32, supply: u32) -> VerdictAnswer
-        ensures { λ r. ⌜ r ≡ shortAnswer window demand supply ⌝ }
-    {
-        VerdictAnswer {
-            refusal: Refusal {
-                number: Refusal::NONE,
-                place: 0,
-            },
-            meets: false,
-            window: window,
-            demand: demand,
-            supply: supply,
-        }
-    }
-}
 
 // The most ticks that a wait is asked for.
 const TICKS: u32 = 65_535;
@@ -116,7 +57,7 @@ pub fn verdict(table: Table, queue: u32) -> VerdictAnswer
         return VerdictAnswer::refused(refused(Refusal::HORIZON));
     }
     let cycle = bounds::cycle(table, queue).least;
-    search::decide(table, queue, &filled, cycle, multiple)
+    verdicts::decide(table, queue, &filled, cycle, multiple)
 }
 
 // The longest time until one message of so many ticks, alone in its queue, is sent.

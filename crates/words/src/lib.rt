@@ -1,7 +1,7 @@
 // The words that programs print: decimal numbers, each after a blank, a refusal and a verdict (docs/RULES.md, The listing).
 use libc::STDOUT_FILENO;
+use search::VerdictAnswer;
 use table::Refusal;
-use verdict::VerdictAnswer;
 
 pub fn text(s: &[u8]) {
     io::write_all(STDOUT_FILENO, s);

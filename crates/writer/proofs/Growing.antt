@@ -8,7 +8,7 @@ use lib.ListN.{length, set, length-append}
 use lib.Seq.{sets}
 use Rattle.table.specs.declared.Table.{Table}
 use Rattle.table.specs.Table.{locationAt, taskAt}
-use Rattle.record.specs.Format.{headerField, locationField, taskField, locationFields, taskFields, recordOf, locationOffset, taskOffset}
+use Rattle.format.specs.Format.{headerField, locationField, taskField, locationFields, taskFields, recordOf, locationOffset, taskOffset}
 
 -- stores of ys just after those of xs are stores of both
 pub sets-after : (xs ys s : List ℕ) (i n : ℕ) → i + length xs ≡ n → sets (sets s i xs) n ys ≡ sets s i (xs ++ ys)

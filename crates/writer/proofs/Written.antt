@@ -4,18 +4,18 @@ use mathlib.Core.Bool.{Bool, true, false, not, _&&_}
 use mathlib.Core.List.{List}
 use Prim.Native.Nat.{ℕ, suc, _≤_, _<_}
 use native.Mathlib.Omega.{arith}
-use borrow.Author.Tests.{lt-ltb, le-ltb}
 use lib.ListN.{length}
 use lib.Seq.{sets}
-use lib.Dec.{T, leb, ltb, leb→le}
+use lib.Dec.{T, leb, leb→le, ltb, lt→ltb}
+use lib.Arith.{le→nltb}
 use Rattle.laws.proofs.Test.{and-left, and-right}
+use Rattle.laws.proofs.Cases.{zero-case, suc-case, true-case, false-case}
 use Rattle.table.specs.declared.Table.{Table}
 use Rattle.table.specs.declared.Refusal.{Refusal}
 use Rattle.table.specs.Rules.{refusal, fine, refuse, foundIf, within, judged}
 use Rattle.writer.specs.declared.WriteAnswer.{WriteAnswer}
-use Rattle.record.specs.Format.{recordOf, recordLength}
+use Rattle.format.specs.Format.{recordOf, recordLength}
 use Rattle.writer.specs.Writing.{writeRefusal, writeOf, written}
-use Rattle.record.proofs.Cases.{zero-case, suc-case, true-case, false-case}
 
 -- ---- a table that the judge accepts has counts in their limits
 
@@ -54,7 +54,7 @@ module _ (t : Table) (out : List ℕ) where
   pub room-refuses : judged t .number ≡ 0 → length out < recordLength t → (refused (refusal 16 0) ≡ writeOf t (length out)) × (out ≡ written t out)
   unfolding writeRefusal
   room-refuses z h =
-      let test = true-case (ltb (length out) (recordLength t)) _ _ (lt-ltb _ _ h) in
+      let test = true-case (ltb (length out) (recordLength t)) _ _ (lt→ltb _ _ h) in
       let e : writeRefusal t (length out) ≡ refusal 16 0 = zero-case (judged t .number) _ (λ n. judged t) z ∙ test in
       rw e at (refused-writing (rw e (λ z. omega arith)))
 
@@ -62,6 +62,6 @@ module _ (t : Table) (out : List ℕ) where
   unfolding writeRefusal writeOf written
   write-fits z h =
       let r = writeRefusal t (length out) in
-      let test = false-case (ltb (length out) (recordLength t)) _ _ (le-ltb _ _ h) in
+      let test = false-case (ltb (length out) (recordLength t)) _ _ (le→nltb _ _ h) in
       let e : r .number ≡ 0 = ap (λ r. r .number) (zero-case (judged t .number) _ (λ n. judged t) z ∙ test) in
       (sym (zero-case (r .number) _ (λ n. refused r) e), sym (zero-case (r .number) _ (λ n. out) e))

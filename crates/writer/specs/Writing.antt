@@ -9,7 +9,7 @@ use Rattle.table.specs.declared.Table.{Table}
 use Rattle.table.specs.declared.Refusal.{Refusal}
 use Rattle.table.specs.Rules.{refusal, fine, judged}
 use Rattle.writer.specs.declared.WriteAnswer.{WriteAnswer}
-use Rattle.record.specs.Format.{recordOf, recordLength}
+use Rattle.format.specs.Format.{recordOf, recordLength}
 
 -- The refusal of writing t into so many bytes.
 unfoldable pub writeRefusal : Table → ℕ → Refusal

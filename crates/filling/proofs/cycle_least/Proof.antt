@@ -2,7 +2,7 @@
 use mathlib.Core.Path.{_∙_}
 use Rattle.theory.specs.Grants.{is}
 use Rattle.theory.proofs.Rest.{rest-root}
-use Rattle.filling.specs.Lent.{lentTree}
+use Rattle.corners.specs.Lent.{lentTree}
 use borrow.Author.Needs.{needs}
 use Rattle.filling.proofs.cycle_least.Statement.{statement}
 use Rattle.filling.proofs.cycle_least.Tie as tie

@@ -3,7 +3,7 @@
 use Prim.Native.Nat.{_<_}
 use native.Mathlib.Omega.{arith}
 use Rattle.theory.proofs.Paths.{some-tick}
-use Rattle.filling.specs.Lent.{lentTree, Below}
+use Rattle.corners.specs.Lent.{lentTree, Below}
 use Rattle.filling.proofs.Walking.{corners-long}
 use Rattle.filling.proofs.Decided.{begins-below, Told, told}
 use borrow.Author.Needs.{needs}

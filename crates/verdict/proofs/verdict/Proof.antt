@@ -10,7 +10,7 @@ use Rattle.table.specs.Table.{tasksOf}
 use Rattle.table.specs.Rules.{refusal}
 use Rattle.table.proofs.Ranged.{ranged}
 use Rattle.bounds.specs.Questions.{queueRefusal}
-use Rattle.verdict.specs.Parts.{refusedAnswer}
+use Rattle.search.specs.Answers.{refusedAnswer}
 use Rattle.verdict.proofs.InOrder.{refuses, horizon-asked, horizon-past, horizon-within, verdict-refused, verdict-given}
 use Rattle.verdict.proofs.Filled.{Prepared, prepared}
 use Rattle.verdict.proofs.verdict.Statement.{statement}

@@ -6,7 +6,7 @@ use native.Mathlib.Omega.{arith}
 use lib.ListN.{length}
 use lib.Seq.{sets, length-sets}
 use borrow.Author.Needs.{needs}
-use Rattle.record.specs.Format.{locationFields, locationOffset}
+use Rattle.format.specs.Format.{locationFields, locationOffset}
 use Rattle.writer.proofs.Growing.{locations-next}
 use Rattle.writer.proofs.put_locations.Statement.{statement}
 use Rattle.writer.proofs.put_locations.Tie as tie

@@ -6,7 +6,7 @@ use native.Mathlib.Omega.{arith}
 use lib.ListN.{length}
 use lib.Seq.{sets, length-sets}
 use borrow.Author.Needs.{needs}
-use Rattle.record.specs.Format.{taskFields, taskOffset}
+use Rattle.format.specs.Format.{taskFields, taskOffset}
 use Rattle.writer.proofs.Growing.{tasks-next}
 use Rattle.writer.proofs.put_tasks.Statement.{statement}
 use Rattle.writer.proofs.put_tasks.Tie as tie

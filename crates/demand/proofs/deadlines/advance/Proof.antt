@@ -1,4 +1,4 @@
--- `verdict::deadlines::advance` meets its contract: the loop keeps that the work of the first i entries is in the block, and the least
+-- `demand::deadlines::advance` meets its contract: the loop keeps that the work of the first i entries is in the block, and the least
 -- of their next deadlines. Assumes nothing.
 use Prim.Native.Nat.{_-_}
 use native.Mathlib.Omega.{arith}

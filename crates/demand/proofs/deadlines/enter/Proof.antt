@@ -1,4 +1,4 @@
--- `verdict::deadlines::enter` meets its contract: the loop keeps that no window's demand changes while the task's work goes into the
+-- `demand::deadlines::enter` meets its contract: the loop keeps that no window's demand changes while the task's work goes into the
 -- block. Assumes nothing.
 use Prim.Native.Nat.{ℕ, _+_, _-_, _≤_, _<_}
 use mathlib.Core.Path.{_≡_, refl, _∙_}

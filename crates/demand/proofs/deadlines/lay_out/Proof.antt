@@ -1,4 +1,4 @@
--- `verdict::deadlines::lay_out` meets its contract: the loop keeps that the first entries are the queue's among the tasks passed. Assumes
+-- `demand::deadlines::lay_out` meets its contract: the loop keeps that the first entries are the queue's among the tasks passed. Assumes
 -- nothing.
 use Prim.Native.Nat.{_-_, _≤_}
 use mathlib.Core.Path.{_≡_, sym, _∙_}

@@ -1,4 +1,4 @@
--- `verdict::due::of_queue` meets its contract: the loop keeps the demand of the first i tasks, each at most the window. Assumes nothing.
+-- `demand::due::of_queue` meets its contract: the loop keeps the demand of the first i tasks, each at most the window. Assumes nothing.
 use Prim.Native.Nat.{ℕ, _-_, _*_, _≤_}
 use mathlib.Core.Path.{_≡_, refl, sym, _∙_}
 use mathlib.Core.Logic.{⊎-elim}

@@ -1,4 +1,4 @@
--- `verdict::due::of_task` meets its contract: before the deadline nothing is due, and after it the quotient counts the gaps. The sum fits,
+-- `demand::due::of_task` meets its contract: before the deadline nothing is due, and after it the quotient counts the gaps. The sum fits,
 -- since a window's demand is at most its ticks. Assumes nothing.
 use Prim.Native.Nat.{ℕ, _+_, _-_, _*_, _/_, _≤_}
 use mathlib.Core.Path.{_≡_, sym, ap, ap₂, _∙_}

@@ -11,10 +11,11 @@ use lib.ListN.{length, drop, length-drop}
 use borrow.Author.Needs.{needs}
 use Rattle.table.specs.declared.Table.{Table}
 use Rattle.table.specs.Rules.{refusal}
-use Rattle.record.specs.Format.{headerOf, locationOf, taskOf, recordLength}
-use Rattle.record.specs.Reading.{refused, left, headerNumber, fieldNumber, isLocation, withLocation, withTask, fieldsFrom, mostFields, fieldsOf}
-use Rattle.record.proofs.Parts.{rest}
-use Rattle.record.proofs.Cases.{holds, fails}
+use Rattle.format.specs.Format.{headerOf, locationOf, taskOf, recordLength}
+use Rattle.format.specs.Tests.{left, headerNumber, fieldNumber, isLocation}
+use Rattle.record.specs.Reading.{refused, withLocation, withTask, fieldsFrom, mostFields, fieldsOf}
+use Rattle.laws.proofs.Parts.{rest}
+use Rattle.laws.proofs.Cases.{holds, fails}
 use Rattle.record.proofs.Fields.{header-refused, header-fine, header-met, location-met, task-met, location-read, task-read, field-refused, end-without-location, end-read}
 use Rattle.record.proofs.Length.{front-met}
 use Rattle.record.proofs.front.fields.Statement.{statement}

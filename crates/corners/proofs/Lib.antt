@@ -1,0 +1,3 @@
+-- Laws of columns, in reading order.
+pub mod Closing
+pub mod Resting

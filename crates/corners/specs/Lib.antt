@@ -1,0 +1,2 @@
+-- What lent columns mean.
+pub mod Lent

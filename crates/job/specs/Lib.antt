@@ -1,0 +1,2 @@
+-- A job as the entry of a state.
+pub mod Entry

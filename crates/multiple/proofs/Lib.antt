@@ -1,0 +1,2 @@
+-- The laws behind the function.
+pub mod Multiples

@@ -1,0 +1,2 @@
+-- What the function hands back.
+pub mod Limited

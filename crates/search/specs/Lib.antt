@@ -1,0 +1,3 @@
+-- What the verdict answers, and the supply that it is taken from.
+pub mod Answers
+pub mod Supply

@@ -1,0 +1,71 @@
+// The search for the shortest window in which demand exceeds the least supply, block by block from deadline to deadline.
+ghost use mathlib.Core.Path.{_≡_};
+ghost use Prim.Native.Nat.{ℕ, _*_, _<_, _≤_};
+ghost use Rattle.theory.specs.Search.{lcmOf};
+ghost use Rattle.table.specs.Table.{tasksOf};
+ghost use Rattle.table.specs.Rules.{WellFormed, fine};
+ghost use Rattle.table.specs.Columns.{entry};
+ghost use Rattle.search.specs.Answers.{Verdict};
+ghost use Rattle.search.specs.Supply.{Supplied, supplyAt};
+use crate::VerdictAnswer;
+use demand::deadlines;
+use table::Table;
+use table::paths;
+
+// The least supply of a window: from the filling, and past 2P by the law of the period.
+fn supply(filled: &[u32; VerdictAnswer::FILLING], period: u16, cycle: u32, window: u32) -> u32
+    requires { ⌜ (1 ≤ period) × (period ≤ 1024) × (cycle ≤ 1024) × (window ≤ 1000063) ⌝ }
+    requires { ⌜ ((w : ℕ) → w < 2 * period → entry (now filled) w ≤ 2048) ⌝ }
+    ensures { λ r. ⌜ r ≡ supplyAt (now (filled .entry)) period cycle window ⌝ }
+{
+    let turn = paths::wide(period);
+    if window < 2 * turn {
+        let near = window as usize;
+        return filled[near];
+    }
+    let past = window - turn;
+    let at = (turn + past % turn) as usize;
+    filled[at] + past / turn * cycle
+}
+
+// The verdict, from the filling, the cycle least and the multiple. Demand moves at deadlines only, and least never falls:
+// the shortest short window is a deadline, and one past the multiple has a shorter one before it. So the next block begins
+// at the next deadline, and only windows with work are compared.
+pub fn decide(
+    table: Table,
+    queue: u32,
+    filled: &[u32; VerdictAnswer::FILLING],
+    cycle: u32,
+    multiple: u32,
+) -> VerdictAnswer
+    requires { ⌜ WellFormed table ⌝ }
+    requires { ⌜ Supplied table queue (now filled) cycle ⌝ }
+    requires { ⌜ (multiple ≡ lcmOf (tasksOf table) queue (table .period)) × (multiple ≤ 1000000) ⌝ }
+    ensures { λ r. ⌜ (r .refusal ≡ fine) × Verdict table queue r ⌝ }
+{
+    let mut dues = [0u32; Table::TASKS];
+    let mut gaps = [0u32; Table::TASKS];
+    let mut works = [0u32; Table::TASKS];
+    let tasks = deadlines::lay_out(table, queue, &mut dues, &mut gaps, &mut works);
+    let mut demand: u32 = 0;
+    let mut next: u32 = 1;
+    while next <= multiple {
+        let start = next;
+        let mut block = [0u32; deadlines::BLOCK];
+        next = deadlines::advance(&mut dues, &gaps, &works, tasks, start, &mut block);
+        let mut i: usize = 0;
+        while i < deadlines::BLOCK {
+            let work = block[i];
+            demand += work;
+            if work != 0 {
+                let window = start + i as u32;
+                let supply = supply(filled, table.period, cycle, window);
+                if supply < demand {
+                    return VerdictAnswer::short(window, demand, supply);
+                }
+            }
+            i += 1;
+        }
+    }
+    VerdictAnswer::met()
+}

@@ -1,9 +1,9 @@
 // The bounds of a table: least, most, cycle least and most, and the filling (docs/RULES.md, Runs and bounds).
 ghost use Rattle.bounds.specs.Questions.{LeastAnswer, MostAnswer, CycleAnswers, Fills};
 
-mod flags;
-mod questions;
-pub mod refusals;
+mod flags; // flags.rt: which locations are the queue's
+pub mod questions; // questions.rt: the bounds of a well-formed table
+pub mod refusals; // refusals.rt: which question is refused
 
 use slice::numbers;
 use table::Refusal;

@@ -63,7 +63,7 @@ pub fn cycle(table: Table, queue: usize, pass: u8) -> u32
 // The least of one window: past two periods, each period more adds the least of a cycle.
 pub fn bound(table: Table, queue: usize, pass: u8, window: u32) -> u32
     requires { ⌜ WellFormed table × (1 ≤ queue) × (window ≤ 2000000) ⌝ }
-    ensures { λ r. ⌜ (r ≡ leastOf (system (treeOf table)) (asks pass queue) window) × (r ≤ window) ⌝ }
+    ensures { λ r. ⌜ r ≡ leastOf (system (treeOf table)) (asks pass queue) window ⌝ }
 {
     let mut out = [0u32; ENTRIES];
     leasts(table, queue, pass, &mut out);

@@ -58,7 +58,7 @@ fn enter(block: &mut [u32; BLOCK], start: u32, deadline: u32, gap: u32, work: u3
     requires { ⌜ ((w : ℕ) → w < start + 64 → entered (now block) start w + demandOf (waiting deadline gap work) w ≤ far) ⌝ }
     ensures { λ r. ⌜ Enters start gap work deadline r (now (block .entry)) (now (block .exit)) ⌝ }
 {
-    let end = start + 64;
+    let end = start + BLOCK as u32;
     let mut next = deadline;
     while next < end {
         let at = (next - start) as usize;

@@ -1,7 +1,8 @@
 // One job of a state, and what the step rules do to it (docs/RULES.md, The runner).
 ghost use mathlib.Core.Path.{_≡_};
+ghost use mathlib.Core.Bool.{not, _&&_, _||_};
 ghost use Prim.Native.Nat.{_+_, _-_, _<_, min};
-ghost use lib.Dec.{eqb};
+ghost use lib.Dec.{eqb, ltb};
 ghost use Rattle.laws.specs.Test.{pick};
 ghost use Rattle.laws.specs.Bits.{inSet};
 ghost use Rattle.theory.specs.Job.{release, serve, age, isLate, drop};
@@ -37,6 +38,21 @@ pub fn release(job: Job, task: Task, released: bool) -> Job
         };
     }
     job
+}
+
+// Does a job wait in the queue, with less left than the least so far? At first there is none.
+pub fn is_sooner(job: Job, task: Task, queue: u8, some: bool, least: u16) -> bool
+    ensures { λ r. ⌜ r ≡ ((eqb (task .queue) queue && ltb 0 (job .remaining)) && (not some || ltb (job .left) least)) ⌝ }
+{
+    if task.queue == queue {
+        if 0 < job.remaining {
+            if some {
+                return job.left < least;
+            }
+            return true;
+        }
+    }
+    false
 }
 
 // Rule 2: one tick of work.

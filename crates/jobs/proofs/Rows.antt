@@ -3,9 +3,9 @@ use mathlib.Core.Path.{_≡_, ap, _∙_}
 use mathlib.Core.List.{List}
 use mathlib.Core.Logic.{inl, inr}
 use Prim.Native.Nat.{ℕ, _+_, _≤_, _<_}
-use lib.ListN.{length, getD, set, replicate, getD-replicate, List·getD-eq-default}
+use lib.ListN.{getD, set, replicate, getD-replicate, List·getD-eq-default}
 use Rattle.laws.proofs.Test.{le-or-lt}
-use Rattle.laws.proofs.Up.{up-none, up-next, up-length, up-at, up-later, up-same}
+use Rattle.laws.proofs.Up.{up-none, up-next, up-at, up-later, up-same}
 use Rattle.theory.specs.Job.{Job}
 use Rattle.job.specs.declared.Job.{Job as Entry}
 use Rattle.job.specs.Entry.{jobOf, entryOf, noJob}
@@ -20,9 +20,6 @@ module _ (js : ℕ → Job) where
 
   pub row-next : (n : ℕ) (jobs : List Entry) → jobs ≡ row n js → set jobs n (entryOf (js n)) ≡ row (n + 1) js
   row-next n jobs e = up-next (λ i. entryOf (js i)) n (replicate 32 noJob) jobs e
-
-  pub row-length : (n : ℕ) → length (row n js) ≡ 32
-  row-length n = up-length (λ i. entryOf (js i)) n (replicate 32 noJob)
 
   pub row-at : (n i : ℕ) → n ≤ 32 → i < n → jobOf (getD (row n js) i noJob) ≡ js i
   row-at n i h l = ap jobOf (up-at (λ i. entryOf (js i)) noJob n i (replicate 32 noJob) l h)

@@ -65,21 +65,6 @@ pub fn release(entries: [Job; Table::TASKS], table: Table, set: u32) -> [Job; Ta
     jobs
 }
 
-// Does a job wait in the queue, with less left than the least so far? At first there is none.
-fn is_sooner(job: Job, task: Task, queue: u8, some: bool, least: u16) -> bool
-    ensures { λ r. ⌜ r ≡ ((eqb (task .queue) queue && ltb 0 (job .remaining)) && (not some || ltb (job .left) least)) ⌝ }
-{
-    if task.queue == queue {
-        if 0 < job.remaining {
-            if some {
-                return job.left < least;
-            }
-            return true;
-        }
-    }
-    false
-}
-
 // Rule 2: of the jobs of the queue with work the one with the least left, of equals the lower task.
 pub fn earliest(entries: [Job; Table::TASKS], table: Table, queue: u8) -> Choice
     requires { ⌜ table .tasks ≤ 32 ⌝ }
@@ -92,7 +77,7 @@ pub fn earliest(entries: [Job; Table::TASKS], table: Table, queue: u8) -> Choice
     let mut i: usize = 0;
     while i < n {
         let job = entries[i];
-        if is_sooner(job, table.task[i], queue, served, least) {
+        if job::is_sooner(job, table.task[i], queue, served, least) {
             served = true;
             task = i;
             least = job.left;

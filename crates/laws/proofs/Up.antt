@@ -6,9 +6,9 @@ use Prim.Native.Nat.{ℕ, zero, suc, _+_, _≤_, _<_}
 use native.Mathlib.Omega.{arith}
 use native.Mathlib.Numerals.{add-one}
 use lib.ListN.{length, getD, set, length-set}
-use lib.Seq.{getD-set-same, getD-set-other, ext-getD}
+use lib.Seq.{getD-set-same, getD-set-other}
 use Rattle.laws.specs.Up.{upTo}
-use Rattle.laws.proofs.Test.{le-or-lt, last-or-before}
+use Rattle.laws.proofs.Test.{last-or-before}
 
 module _ {A : Type 0} (f : ℕ → A) where
   pub up-none : (xs : List A) → upTo f 0 xs ≡ xs
@@ -42,14 +42,6 @@ module _ {A : Type 0} (f : ℕ → A) where
   -- one entry more, in a list that is replaced so far
   pub up-next : (n : ℕ) (xs ys : List A) → ys ≡ upTo f n xs → set ys n (f n) ≡ upTo f (n + 1) xs
   up-next n xs ys e = rw e (sym (up-more n xs))
-
-  -- a list with these entries is the one
-  pub up-is : (d : A) (n : ℕ) (xs ys : List A) → n ≤ length xs → length ys ≡ length xs
-      → ((i : ℕ) → i < n → getD ys i d ≡ f i) → ((i : ℕ) → n ≤ i → getD ys i d ≡ getD xs i d) → ys ≡ upTo f n xs
-  up-is d n xs ys h e below above = ext-getD d ys (upTo f n xs) (e ∙ sym (up-length n xs)) (λ i l. elim (le-or-lt n i) [
-    | inl m ↦ above i m ∙ sym (up-later d n i xs m)
-    | inr m ↦ below i m ∙ sym (up-at d n i xs m h)
-  ])
 
 -- functions that agree below n
 pub up-same : {A : Type 0} (f g : ℕ → A) (n : ℕ) (xs : List A) → ((i : ℕ) → i < n → f i ≡ g i) → upTo f n xs ≡ upTo g n xs

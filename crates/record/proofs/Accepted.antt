@@ -3,9 +3,9 @@
 use mathlib.Core.Path.{_≡_, sym, ap, subst, _∙_}
 use mathlib.Core.List.{List}
 use mathlib.Core.Logic.{_↔_, inl, inr}
-use Prim.Native.Nat.{ℕ, _+_, _≤_, _<_}
+use Prim.Native.Nat.{ℕ}
 use native.Mathlib.Omega.{arith}
-use lib.ListN.{length, take, drop}
+use lib.ListN.{take, drop}
 use Rattle.laws.proofs.Test.{le-or-lt}
 use Rattle.table.specs.declared.Table.{Table}
 use Rattle.table.specs.declared.Refusal.{Refusal}
@@ -16,10 +16,10 @@ use Rattle.table.proofs.WellFormed.{judged-well-formed, well-formed-judged}
 use Rattle.table.proofs.Same.{judged-same}
 use Rattle.table.proofs.Widths.{high-in-width, GapInWidth, well-formed-in-width}
 use Rattle.record.specs.declared.ReadAnswer.{ReadAnswer}
-use Rattle.format.specs.Format.{recordOf, payloadOffset, payloadLength, fieldCount}
+use Rattle.format.specs.Format.{recordOf, payloadOffset, payloadLength}
 use Rattle.record.specs.Reading.{fieldsOf, readOf}
 use Rattle.record.proofs.Payloads.{Bytes}
-use Rattle.record.proofs.Places.{length-record, payload-within, payloadAt}
+use Rattle.record.proofs.Places.{payloadAt}
 use Rattle.record.proofs.Fields.{read-refused, read-judged, read-accepted}
 use Rattle.record.proofs.WrittenReads.{written-reads}
 use Rattle.record.proofs.ReadWrites.{Writes, fields-number, fields-written}
@@ -51,10 +51,6 @@ module _ (s : List ℕ) where
   accepted-fields : readOf s .refusal .number ≡ 0 → readOf s ≡ fieldsOf s
   accepted-fields e = let (f, j) = accepted-parts e in read-accepted s f j
 
-  -- number 0 is no refusal
-  pub read-number : Bytes s → readOf s .refusal .number ≡ 0 → readOf s .refusal ≡ fine
-  read-number b e = ap (λ (x : ReadAnswer). x .refusal) (accepted-fields e) ∙ fields-number s b (accepted-parts e .0)
-
 module _ (s : List ℕ) (b : Bytes s) (e : readOf s .refusal ≡ fine) where
   number-zero : readOf s .refusal .number ≡ 0
   number-zero = ap (λ (r : Refusal). r .number) e
@@ -71,9 +67,6 @@ module _ (s : List ℕ) (b : Bytes s) (e : readOf s .refusal ≡ fine) where
       judged-well-formed (readOf s .table) (high-in-width (readOf s .table) (accepted-writes .in-width)) (refused-number (readOf s .table) j)
 
   -- ---- its fields
-
-  pub accepted-payload-within : (k : ℕ) → k < fieldCount (readOf s .table) → payloadOffset (readOf s .table) k + payloadLength (readOf s .table) k ≤ length s
-  accepted-payload-within k l = omega (arith, payload-within (readOf s .table) k l, length-record (readOf s .table), ap length read-writes)
 
   pub payload-is : (k : ℕ) → take (payloadLength (readOf s .table) k) (drop (payloadOffset (readOf s .table) k) s) ≡ payloadAt (readOf s .table) k
   payload-is k = ap (λ (x : List ℕ). take (payloadLength (readOf s .table) k) (drop (payloadOffset (readOf s .table) k) x)) (sym read-writes)

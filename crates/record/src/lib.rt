@@ -1,5 +1,6 @@
 // The record of a table as bytes: reading it, and the question for one field (docs/RULES.md, The record).
 mod front; // front.rt: the fields from the front
+mod offsets; // offsets.rt: where the payloads lie
 mod payload; // payload.rt: what a payload holds
 
 ghost use mathlib.Core.Path.{_≡_};
@@ -47,11 +48,11 @@ pub fn field<'a>(bytes: &'a [u8], k: usize) -> &'a [u8]
     if answer.refusal.number != Refusal::NONE {
         return &bytes[0..0];
     }
-    if format::field_count(answer.table) <= k {
+    if offsets::field_count(answer.table) <= k {
         return &bytes[0..0];
     }
-    let from = format::payload_offset(answer.table, k);
-    let end = from + format::payload_length(answer.table, k);
+    let from = offsets::payload_offset(answer.table, k);
+    let end = from + offsets::payload_length(answer.table, k);
     &bytes[from..end]
 }
 
@@ -68,7 +69,7 @@ pub fn field_place(bytes: &[u8], k: usize) -> FieldAnswer
             length: 0,
         };
     }
-    if format::field_count(answer.table) <= k {
+    if offsets::field_count(answer.table) <= k {
         return FieldAnswer {
             refusal: Refusal {
                 number: Refusal::AMOUNT,
@@ -80,8 +81,8 @@ pub fn field_place(bytes: &[u8], k: usize) -> FieldAnswer
     }
     FieldAnswer {
         refusal: Refusal::none(),
-        offset: format::payload_offset(answer.table, k),
-        length: format::payload_length(answer.table, k),
+        offset: offsets::payload_offset(answer.table, k),
+        length: offsets::payload_length(answer.table, k),
     }
 }
 

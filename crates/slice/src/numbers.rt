@@ -1,6 +1,6 @@
 // Small steps on numbers, each with its value in its contract.
 ghost use mathlib.Core.Path.{_≡_};
-ghost use Prim.Native.Nat.{_+_, _-_, _<_, _≤_, min};
+ghost use Prim.Native.Nat.{_+_, _-_, _<_, min};
 
 pub fn long(x: u32) -> usize
     ensures { λ r. ⌜ (r ≡ x) × (r < 4294967296) ⌝ }
@@ -10,10 +10,12 @@ pub fn long(x: u32) -> usize
 
 // What others leave of so many ticks.
 pub fn left(ticks: u32, others: u32) -> u32
-    requires { ⌜ others ≤ ticks ⌝ }
     ensures { λ r. ⌜ r ≡ ticks - others ⌝ }
 {
-    ticks - others
+    if others < ticks {
+        return ticks - others;
+    }
+    0
 }
 
 pub fn lesser(a: usize, b: usize) -> usize

@@ -3,7 +3,7 @@ use Prim.Native.Nat.{ℕ, zero, suc, _<_}
 use native.Mathlib.Omega.{arith}
 use Rattle.table.specs.declared.Table.{Table}
 use Rattle.table.specs.Table.{locationAt, taskAt}
-use Rattle.table.specs.Ranged.{RangedLocation, RangedTask, Ranged}
+use Rattle.table.specs.Ranged.{RangedLocation, RangedTask}
 use Rattle.table.specs.Rules.{WellFormed}
 use Rattle.table.proofs.WellFormed.{HighInWidth}
 
@@ -20,10 +20,6 @@ high-in-width t w v l = omega (arith, w .location v l .high)
 
 abbrev pub GapInWidth : Table → Type 0
 GapInWidth t = (i : ℕ) → i < t .tasks → taskAt t i .gap < 65536
-
--- a table that a function owns has all its numbers in width
-pub ranged-in-width : (t : Table) → Ranged t → InWidth t
-ranged-in-width t r = record { version = r .version; queues = r .queues; period = r .period; location = λ v l. r .location v; task = λ i l. r .task i }
 
 module _ (t : Table) (w : WellFormed t) where
   parent-in-width : (v : ℕ) → v < t .locations → locationAt t v .parent < 256

@@ -1,6 +1,6 @@
 -- After the two passes entry t is the least of out n + (t - n) over all n: the pass down carries back what longer windows count,
 -- the pass up adds one for each tick more. Assumes nothing.
-use mathlib.Core.Path.{_≡_, refl, ap}
+use mathlib.Core.Path.{_≡_, ap}
 use mathlib.Core.Logic.{inl, inr}
 use Prim.Native.Nat.{ℕ, zero, suc, _+_, _-_, _≤_, _<_, min}
 use native.Mathlib.Nat.{add-zero, add-suc, suc-add, le-refl}
@@ -78,11 +78,3 @@ module _ (out : ℕ → ℕ) (last : ℕ) where
   pub down-step : (t : ℕ) → t < last → down out (last - t) t ≡ min (out t) (down out (last - suc t) (suc t))
   unfolding down
   down-step t h = let e : last - t ≡ suc (last - suc t) = omega arith in ap (λ k. down out k t) e
-
-  pub filling-first : filling out last 0 ≡ down out (last - 0) 0
-  unfolding up
-  filling-first = refl
-
-  pub filling-step : (t : ℕ) → filling out last (suc t) ≡ min (down out (last - suc t) (suc t)) (filling out last t + 1)
-  unfolding up
-  filling-step t = refl

@@ -1,5 +1,5 @@
--- The wait: the search up to P + c P finds it, unless some cycle has none; the points give it as well; and from one
--- period on, a period more is the wait for a cycle's least more. Assumes nothing.
+-- The wait: the search up to P + c P finds it, unless some cycle has none; and from one period on, a period more is the wait
+-- for a cycle's least more. Assumes nothing.
 use mathlib.Core.Path.{_≡_}
 use mathlib.Core.Bool.{Bool}
 use mathlib.Core.Logic.{inl, inr}
@@ -14,14 +14,13 @@ use Rattle.theory.specs.Bounds.{Streams}
 use Rattle.theory.specs.Tree.{Tree, Formed, grants, CycleLeast}
 use Rattle.theory.specs.Verdict.{Wait}
 use Rattle.theory.specs.Cycles.{system, cycleLeast}
-use Rattle.theory.specs.Points.{Point}
 use Rattle.theory.specs.Search.{wait, WaitSays}
 use Rattle.theory.proofs.Bounds.{least-unique}
 use Rattle.theory.proofs.Paths.{some-tick}
 use Rattle.theory.proofs.Cycles.{least-period, least-periods, least-one-period}
 use Rattle.theory.proofs.Runs.{sound, tree-least}
 use Rattle.theory.proofs.Period.{cycle-least, cycle-least-unique}
-use Rattle.theory.proofs.Points.{bound, bound-slow, point-sound, Deciding}
+use Rattle.theory.proofs.Points.{bound, bound-slow}
 
 pub wait-unique : (G : Streams) {p : ℕ → Bool} (c t u : ℕ) → Wait G p c t → Wait G p c u → t ≡ u
 wait-unique G c t u a b = elim (le-or-lt t u) [
@@ -92,35 +91,6 @@ module _ (t : Tree) (formed : Formed t) (p : ℕ → Bool) where
               | inr y ↦ absurd (omega (arith, reaches c y))
             ],
           )
-
-  -- ---- the points
-
-  -- M is the largest n + (c - m) of the points with fewer than c
-  pub record LastPoint (O C : ℕ → Bool) (K c M : ℕ) : Type 0 where
-    pub length : ℕ
-    pub passing : ℕ
-    pub point : Point t p O C K length passing
-    pub fewer : passing < c
-    pub says : length + (c - passing) ≡ M
-    pub upper : (n m : ℕ) → Point t p O C K n m → m < c → n + (c - m) ≤ M
-
-  module _ (O C : ℕ → Bool) (decide : Deciding t formed p O C) where
-    before-last : (K c M w : ℕ) → LastPoint O C K c M → w < M → least w < c
-    before-last K c M w l h = omega (arith, point-sound t formed p O C K (l .length) (l .passing) (l .point) w, l .fewer, l .says)
-
-    -- it is the wait, if it lies within reach of the points
-    pub wait-point : (K c M : ℕ) → LastPoint O C K c M → M < suc K * P → Wait (grants t) p c M
-    wait-point K c M l few = wait-from c M (elim (le-or-lt c (least M)) [
-      | inl g ↦ g
-      | inr g ↦ let (n, m, q, e) = decide M K few in absurd (omega (arith, l .upper n m q (omega arith)))
-    ]) (λ w. before-last K c M w l)
-
-    -- which it does with c + 1 whole cycles, where every cycle has a tick
-    pub wait-last : (c M : ℕ) → 1 ≤ cycleLeast (system t) p → LastPoint O C (suc c) c M → Wait (grants t) p c M
-    wait-last c M h l = wait-point (suc c) c M l (elim (le-or-lt M (P + c * P)) [
-      | inl g ↦ omega (arith, some-tick t formed)
-      | inr g ↦ absurd (omega (arith, before-last (suc c) c M (P + c * P) l g, reaches c h))
-    ])
 
   -- ---- the law of periods
 

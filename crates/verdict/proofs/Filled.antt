@@ -10,11 +10,11 @@ use Rattle.theory.proofs.Period.{cycle-least}
 use Rattle.table.specs.declared.Table.{Table}
 use Rattle.table.specs.declared.Refusal.{Refusal}
 use Rattle.table.specs.Table.{treeOf}
-use Rattle.table.specs.Rules.{WellFormed}
 use Rattle.table.specs.Ranged.{Ranged}
-use Rattle.bounds.specs.declared.CycleAnswer.{CycleAnswer}
-use Rattle.bounds.specs.Questions.{queueRefusal, fillRefusal, CycleAnswers, Fills}
-use Rattle.bounds.proofs.Refused.{Passes, queue-asked}
+use Rattle.bounds.specs.Questions.{queueRefusal, fillRefusal, Fills}
+use Rattle.bounds.specs.Flagged.{asks}
+use Rattle.bounds.proofs.Refused.{Passes, Asked, queue-asked}
+use Rattle.bounds.proofs.Answered.{cycle-least-says}
 use Rattle.search.specs.Supply.{Supplied}
 use Rattle.verdict.proofs.InOrder.{fill-asked}
 
@@ -23,8 +23,8 @@ pub record Prepared (t : Table) (q : ℕ) (filled : List ℕ) (r : Refusal) : Ty
   pub asked : r ≡ queueRefusal t q
   pub refuses : ¬ Passes r → ¬ Passes (queueRefusal t q)
   pub passes : Passes r → Passes (queueRefusal t q)
-  pub formed : Passes r → WellFormed t
-  pub supplied : Passes r → (a : CycleAnswer) → CycleAnswers t q a → Supplied t q filled (a .least)
+  pub may-ask : Passes r → Asked t q
+  pub supplied : Passes r → (n : ℕ) → n ≡ cycleLeast (system (treeOf t)) (asks 1 q) → Supplied t q filled n
   pub cycle-least : Passes (queueRefusal t q) → CycleLeast (treeOf t) (is q) (cycleLeast (system (treeOf t)) (is q))
 
 pub prepared : (t : Table) (q : ℕ) (before after : List ℕ) (r : Refusal) → Ranged t → length before ≡ 2048 → Fills t q before after r → Prepared t q after r
@@ -35,7 +35,10 @@ prepared t q before after r range room fills =
       asked = e;
       refuses = λ h p. h (n ∙ p);
       passes = λ p. sym n ∙ p;
-      formed = λ p. queue-asked t range q (sym n ∙ p) .well-formed;
-      supplied = λ p a says. record { least = fills .least p; cycle-least = says .least (sym n ∙ p) };
+      may-ask = λ p. queue-asked t range q (sym n ∙ p);
+      supplied = λ p m e. record {
+        least = fills .least p;
+        cycle-least = cycle-least-says (treeOf t) (queue-asked t range q (sym n ∙ p) .well-formed .formed) q m e;
+      };
       cycle-least = λ p. cycle-least (treeOf t) (queue-asked t range q p .well-formed .formed) (is q);
     }

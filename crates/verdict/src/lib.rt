@@ -3,6 +3,7 @@ ghost use mathlib.Core.Path.{_≡_};
 ghost use Rattle.table.specs.Rules.{refusal};
 ghost use Rattle.verdict.specs.Questions.{DemandAnswer, VerdictAnswers, WaitAnswer};
 use bounds::TicksAnswer;
+use bounds::questions;
 use bounds::refusals;
 use demand::due;
 use search::VerdictAnswer;
@@ -56,7 +57,7 @@ pub fn verdict(table: Table, queue: u32) -> VerdictAnswer
     if multiple::LIMIT < multiple {
         return VerdictAnswer::refused(refused(Refusal::HORIZON));
     }
-    let cycle = bounds::cycle(table, queue).least;
+    let cycle = questions::cycle(table, queue as usize, 1);
     verdicts::decide(table, queue, &filled, cycle, multiple)
 }
 
@@ -75,7 +76,7 @@ pub fn wait(table: Table, queue: u32, ticks: u32) -> TicksAnswer
     if TICKS < ticks {
         return told(refused(Refusal::AMOUNT), 0);
     }
-    let cycle = bounds::cycle(table, queue).least;
+    let cycle = questions::cycle(table, queue as usize, 1);
     if cycle < 1 {
         return told(refused(Refusal::NEVER), 0);
     }

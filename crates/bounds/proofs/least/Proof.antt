@@ -28,7 +28,7 @@ returns : tie.Need-returns
 returns c =
     let a = c .before .before .before .before .args in
     let k = asked (c .before) in
-    answer-says _ _ _ (c .before .before .before .of-window .ensures) _ (c .before .if1 .taken) (least-says (treeOf (a .table)) (k .0 .well-formed .formed) (a .queue) _ (a .window) (c .bound .ensures .0))
+    answer-says _ _ _ (c .before .before .before .of-window .ensures) _ (c .before .if1 .taken) (least-says (treeOf (a .table)) (k .0 .well-formed .formed) (a .queue) _ (a .window) (c .bound .ensures))
 
 returns-2 : tie.Need-returns-2
 returns-2 c = answer-refused _ _ _ (c .before .before .of-window .ensures) (c .if1 .left)

@@ -25,13 +25,13 @@ bound-requires : tie.Need-bound-requires
 bound-requires c κs = let k = asked c in (k .0 .well-formed, k .0 .some, k .1)
 
 left-requires : tie.Need-left-requires
-left-requires c κs = c .bound .ensures .1
+left-requires c κs = search needs
 
 returns : tie.Need-returns
 returns c =
     let a = c .before .before .before .before .before .args in
     let k = asked (c .before .before) in
-    let m = most-says (treeOf (a .table)) (k .0 .well-formed .formed) (a .queue) _ (a .window) (c .before .bound .ensures .0) in
+    let m = most-says (treeOf (a .table)) (k .0 .well-formed .formed) (a .queue) _ (a .window) (c .before .bound .ensures) in
     answer-says _ _ _ (c .before .before .before .before .of-window .ensures) _ (c .before .before .if1 .taken) (rw (c .left .ensures) m)
 
 returns-2 : tie.Need-returns-2

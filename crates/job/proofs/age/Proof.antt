@@ -1,4 +1,4 @@
--- `runner::jobs::age` meets its contract: since and left are those of `grown` and `fallen`. Assumes nothing.
+-- `job::age` meets its contract: since and left are those of `grown` and `fallen`. Assumes nothing.
 use borrow.Author.Needs.{needs}
 use Rattle.job.proofs.age.Statement.{statement}
 use Rattle.job.proofs.age.Tie as tie

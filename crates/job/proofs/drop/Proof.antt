@@ -1,4 +1,4 @@
--- `runner::jobs::drop` meets its contract, by its one test. Assumes nothing.
+-- `job::drop` meets its contract, by its one test. Assumes nothing.
 use mathlib.Core.Path.{sym, _∙_}
 use borrow.Author.Needs.{needs}
 use Rattle.job.proofs.drop.Statement.{statement}

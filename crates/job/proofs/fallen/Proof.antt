@@ -1,4 +1,4 @@
--- `runner::jobs::fallen` meets its contract, by its two tests: from 0 nothing is taken. Assumes nothing.
+-- `job::fallen` meets its contract, by its two tests: from 0 nothing is taken. Assumes nothing.
 use native.Mathlib.Omega.{arith}
 use borrow.Author.Tests.{eq-eqb, ne-eqb}
 use borrow.Author.Needs.{needs}

@@ -1,4 +1,4 @@
--- `runner::jobs::is_late` meets its contract, by its one test. Assumes nothing.
+-- `job::is_late` meets its contract, by its one test. Assumes nothing.
 use borrow.Author.Tests.{lt-ltb, le-ltb}
 use Rattle.job.proofs.is_late.Statement.{statement}
 use Rattle.job.proofs.is_late.Tie as tie

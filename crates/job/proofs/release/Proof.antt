@@ -1,4 +1,4 @@
--- `runner::jobs::release` meets its contract, by its one test. Assumes nothing.
+-- `job::release` meets its contract, by its one test. Assumes nothing.
 use Rattle.job.proofs.release.Statement.{statement}
 use Rattle.job.proofs.release.Tie as tie
 

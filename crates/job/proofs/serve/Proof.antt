@@ -1,4 +1,4 @@
--- `runner::jobs::serve` meets its contract, by its two tests: from 0 nothing is taken. Assumes nothing.
+-- `job::serve` meets its contract, by its two tests: from 0 nothing is taken. Assumes nothing.
 use mathlib.Core.Path.{_≡_}
 use Prim.Native.Nat.{_-_}
 use native.Mathlib.Omega.{arith}

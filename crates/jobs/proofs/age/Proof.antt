@@ -1,4 +1,4 @@
--- `runner::rules::age` meets its contract: the first i entries are written, the others are 0. Assumes nothing.
+-- `jobs::age` meets its contract: the first i entries are written, the others are 0. Assumes nothing.
 use mathlib.Core.Path.{_≡_, sym, _∙_}
 use Prim.Native.Nat.{_-_, _≤_}
 use native.Mathlib.Omega.{arith}

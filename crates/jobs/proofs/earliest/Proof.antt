@@ -1,4 +1,4 @@
--- `runner::rules::earliest` meets its contract: the loop is told the best of the first i tasks. Assumes nothing.
+-- `jobs::earliest` meets its contract: the loop is told the best of the first i tasks. Assumes nothing.
 use Prim.Native.Nat.{ℕ, _-_, _≤_}
 use mathlib.Core.Bool.{Bool, false}
 use mathlib.Core.Path.{_≡_, refl, sym, _∙_, subst}

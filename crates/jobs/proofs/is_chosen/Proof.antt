@@ -1,4 +1,4 @@
--- `runner::rules::is_chosen` meets its contract, by its one test. Assumes nothing.
+-- `jobs::is_chosen` meets its contract, by its one test. Assumes nothing.
 use Rattle.jobs.proofs.is_chosen.Statement.{statement}
 use Rattle.jobs.proofs.is_chosen.Tie as tie
 

@@ -1,4 +1,4 @@
--- `runner::rules::late_set` meets its contract: the set holds the late ones of the first i tasks, so it is below 2 ^ i and a bit more fits. Assumes nothing.
+-- `jobs::late_set` meets its contract: the set holds the late ones of the first i tasks, so it is below 2 ^ i and a bit more fits. Assumes nothing.
 use mathlib.Core.Bool.{Bool, true}
 use Prim.Native.Nat.{ℕ, _+_, _*_, _%_, _^_, _-_, _≤_}
 use lib.Pow.{pow-mono, shl-exact}

@@ -50,7 +50,7 @@ returns c =
     verdict-refused (t k) (q k) (c .refused .result) (queueRefusal (t k) (q k)) e (known k .refuses (c .before .if1 .taken)) (c .refused .ensures ∙ ap refusedAnswer (known k .asked))
 
 of-queue-requires : tie.Need-of-queue-requires
-of-queue-requires c κs = known (c .before) .formed (c .if1 .left)
+of-queue-requires c κs = known (c .before) .may-ask (c .if1 .left) .well-formed
 
 refused-requires-2 : tie.Need-refused-requires-2
 refused-requires-2 c κs = search needs
@@ -65,13 +65,13 @@ returns-2 c =
     verdict-refused (t k) (q k) (c .refused3 .result) (refusal 13 0) e (refuses _ 13 (omega arith) refl) (c .refused3 .ensures ∙ ap refusedAnswer (c .before .refused2 .ensures))
 
 cycle-requires : tie.Need-cycle-requires
-cycle-requires c κs = search needs
+cycle-requires c κs = let asked = known (c .before .before .before) .may-ask (c .before .before .if1 .left) in (asked .well-formed, asked .some)
 
 decide-requires : tie.Need-decide-requires
 decide-requires c κs =
     let k = c .before .before .before .before .before in
     let p = c .before .before .before .before .if1 .left in
-    (known k .formed p, (known k .supplied p (c .before .cycle .result) (c .before .cycle .ensures), (near (c .before .before), c .before .before .if2 .left)))
+    (known k .may-ask p .well-formed, (known k .supplied p (c .before .cycle .result) (c .before .cycle .ensures .0), (near (c .before .before), c .before .before .if2 .left)))
 
 returns-3 : tie.Need-returns-3
 returns-3 c =

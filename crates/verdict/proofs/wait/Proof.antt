@@ -88,7 +88,7 @@ returns-3 c =
     }
 
 cycle-requires : tie.Need-cycle-requires
-cycle-requires c κs = search needs
+cycle-requires c κs = let asked = known (c .before .before .before) .may-ask (c .before .before .if1 .left) in (asked .well-formed, asked .some)
 
 refused-requires-3 : tie.Need-refused-requires-3
 refused-requires-3 c κs = search needs
@@ -101,11 +101,11 @@ returns-4 c =
     let j = c .before .before .before .before in
     let k = j .before .before .before in
     let p = known k .passes (j .before .before .if1 .left) in
-    let n = c .before .before .before .cycle .result .least in
+    let n = c .before .before .before .cycle .result in
     let e = wait-never (t k) (q k) (start k .args .ticks) n p (j .before .if2 .left) (j .if3 .left) (omega (arith, c .before .before .if4 .taken)) in
     record {
       cycle = n;
-      cycle-least = c .before .before .before .cycle .ensures .least;
+      cycle-least = λ z. known k .supplied (j .before .before .if1 .left) n (c .before .before .before .cycle .ensures .0) .cycle-least;
       answer = refused-answer _ _ (c .told4 .result) (refuses _ 12 (omega arith) e) (c .told4 .ensures .0 ∙ (c .before .refused3 .ensures ∙ sym e)) (c .told4 .ensures .1);
     }
 
@@ -115,7 +115,7 @@ longest-requires c κs =
     let j = a .before in
     let k = j .before .before .before in
     let p = j .before .before .if1 .left in
-    (known k .formed p, (known k .supplied p (a .cycle .result) (a .cycle .ensures), (c .before .if4 .left, j .before .if2 .left, j .if3 .left)))
+    (known k .may-ask p .well-formed, (known k .supplied p (a .cycle .result) (a .cycle .ensures .0), (c .before .if4 .left, j .before .if2 .left, j .if3 .left)))
 
 told-requires-5 : tie.Need-told-requires-5
 told-requires-5 c κs = search needs
@@ -126,10 +126,10 @@ returns-5 c =
     let j = a .before in
     let k = j .before .before .before in
     let p = known k .passes (j .before .before .if1 .left) in
-    let e = wait-given (t k) (q k) (start k .args .ticks) (a .cycle .result .least) p (j .before .if2 .left) (j .if3 .left) (c .before .before .before .if4 .left) in
+    let e = wait-given (t k) (q k) (start k .args .ticks) (a .cycle .result) p (j .before .if2 .left) (j .if3 .left) (c .before .before .before .if4 .left) in
     record {
-      cycle = a .cycle .result .least;
-      cycle-least = a .cycle .ensures .least;
+      cycle = a .cycle .result;
+      cycle-least = λ z. known k .supplied (j .before .before .if1 .left) (a .cycle .result) (a .cycle .ensures .0) .cycle-least;
       answer = given-answer _ (Wait (grants (treeOf (t k))) (is (q k)) (start k .args .ticks)) (c .told5 .result) e (c .told5 .ensures .0 ∙ (known k .asked ∙ (asked-fine (t k) (q k) p ∙ sym e)))
           (subst (Wait (grants (treeOf (t k))) (is (q k)) (start k .args .ticks)) (sym (c .told5 .ensures .1)) (c .before .longest .ensures));
     }

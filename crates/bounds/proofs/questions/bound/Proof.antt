@@ -69,9 +69,7 @@ array-read-result c = search needs
 returns : tie.Need-returns
 returns c =
     let s = c .before .before .before .before .before .before in
-    let a = s .args in
-    let e = near (c .before .before .before .before) _ _ (c .long .ensures .0) (omega (arith, c .before .before .wide .ensures .0, s .pre .0 .period)) in
-    (e, omega (arith, e, least-small (treeOf (a .table)) (s .pre .0 .formed) (asks (a .pass) (a .queue)) (a .window)))
+    near (c .before .before .before .before) _ _ (c .long .ensures .0) (omega (arith, c .before .before .wide .ensures .0, s .pre .0 .period))
 
 sub-more : tie.Need-sub-more
 sub-more c = search needs
@@ -108,7 +106,7 @@ add-result : tie.Need-add-result
 add-result c = omega (arith, c .before .before .before .before .before .before .before .pre .2, sum-is c .0, sum-is c .1)
 
 returns-2 : tie.Need-returns-2
-returns-2 c = sum-is c
+returns-2 c = sum-is c .0
 
 pub bound-spec : {M : Type 1} → statement M
 bound-spec =

@@ -18,6 +18,9 @@ Inv-loop block₀ start deadline gap work end next₀ block next =
 abbrev μ-loop : tie.MeasureT-loop
 μ-loop block₀ start deadline gap work end next₀ block next = end - next
 
+cast-end : tie.Need-cast-end Inv-loop μ-loop
+cast-end c = search needs
+
 add-end : tie.Need-add-end Inv-loop μ-loop
 add-end c = search needs
 
@@ -81,6 +84,7 @@ enter-spec =
     (tie.spec
     Inv-loop
     μ-loop
+    cast-end
     add-end
     loop-holds
     sub-at

@@ -1,7 +1,7 @@
--- `runner::rules::is_sooner` meets its contract, by its three tests. Assumes nothing.
+-- `job::is_sooner` meets its contract, by its three tests. Assumes nothing.
 use borrow.Author.Tests.{lt-ltb, le-ltb, eq-eqb, ne-eqb}
-use Rattle.jobs.proofs.is_sooner.Statement.{statement}
-use Rattle.jobs.proofs.is_sooner.Tie as tie
+use Rattle.job.proofs.is_sooner.Statement.{statement}
+use Rattle.job.proofs.is_sooner.Tie as tie
 
 returns : tie.Need-returns
 returns c = simp (eq-eqb _ _ (c .before .before .before .before .if1 .taken), lt-ltb 0 _ (c .before .before .if2 .taken), c .before .if3 .taken)

@@ -1,9 +1,9 @@
--- `format::payload_offset` meets its contract: its tests are the definition's, and no sum is above the record's length.
+-- `record::offsets::payload_offset` meets its contract: its tests are the definition's, and no sum is above the record's length.
 -- Assumes nothing.
 use borrow.Author.Tests.{le-leb, lt-leb, eq-eqb, ne-eqb}
 use borrow.Author.Needs.{needs}
-use Rattle.format.proofs.payload_offset.Statement.{statement}
-use Rattle.format.proofs.payload_offset.Tie as tie
+use Rattle.record.proofs.offsets.payload_offset.Statement.{statement}
+use Rattle.record.proofs.offsets.payload_offset.Tie as tie
 
 returns : tie.Need-returns
 returns c = simp (eq-eqb _ _ (c .if1 .taken))

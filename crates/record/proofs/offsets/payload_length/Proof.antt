@@ -1,8 +1,8 @@
--- `format::payload_length` meets its contract: its tests are the definition's. Assumes nothing.
+-- `record::offsets::payload_length` meets its contract: its tests are the definition's. Assumes nothing.
 use borrow.Author.Tests.{le-leb, lt-leb, eq-eqb, ne-eqb}
 use borrow.Author.Needs.{needs}
-use Rattle.format.proofs.payload_length.Statement.{statement}
-use Rattle.format.proofs.payload_length.Tie as tie
+use Rattle.record.proofs.offsets.payload_length.Statement.{statement}
+use Rattle.record.proofs.offsets.payload_length.Tie as tie
 
 sub-result : tie.Need-sub-result
 sub-result c = search needs

@@ -22,9 +22,9 @@ use Rattle.table.specs.Table.{locationAt, treeOf}
 use Rattle.table.specs.Rules.{WellFormed}
 use Rattle.table.specs.Columns.{parentColumn, ticksColumn, entry, zeros}
 use Rattle.table.proofs.Copied.{column-entry}
-use Rattle.bounds.specs.Flagged.{flagColumn, asks}
-use Rattle.corners.specs.Lent.{lentTree, Lent}
 use Rattle.slice.specs.Changes.{Becomes}
+use Rattle.corners.specs.Lent.{lentTree, Lent}
+use Rattle.bounds.specs.Flagged.{flagColumn, asks}
 
 -- ---- what the flags ask
 

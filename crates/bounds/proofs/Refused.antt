@@ -7,11 +7,11 @@ use native.Mathlib.Omega.{arith}
 use lib.Dec.{T-not, ltb, leb, leb→le, eqb, eqb→eq}
 use borrow.Author.Tests.{ltb-false}
 use Rattle.laws.proofs.Test.{either, and-left, and-right, eqb-of}
+use Rattle.laws.proofs.Cases.{of-false, not-not}
 use Rattle.table.specs.declared.Table.{Table}
 use Rattle.table.specs.declared.Refusal.{Refusal}
 use Rattle.table.specs.Ranged.{Ranged}
 use Rattle.table.specs.Rules.{within, judged, WellFormed}
-use Rattle.table.proofs.Flags.{of-false, not-not}
 use Rattle.table.proofs.Unbroken.{unbroken, unbroken-fine}
 use Rattle.table.proofs.WellFormed.{judged-well-formed}
 use Rattle.bounds.specs.Questions.{refuseIf, also, queueRefusal, windowRefusal, fillRefusal}

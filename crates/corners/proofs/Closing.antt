@@ -3,7 +3,7 @@
 use mathlib.Core.Path.{_≡_, refl, sym, _∙_}
 use mathlib.Core.Bool.{Bool, true, false, not, _&&_}
 use mathlib.Core.List.{List, []}
-use mathlib.Core.Logic.{_⊎_, inl, inr}
+use mathlib.Core.Logic.{inl, inr}
 use Prim.Native.Nat.{ℕ, _+_, _≤_, _<_}
 use native.Mathlib.Numerals.{add-one}
 use native.Mathlib.Omega.{arith}
@@ -11,15 +11,15 @@ use lib.Dec.{T, T-not, not-T, eqb, eqb→eq, ltb, ltb→lt, lt→ltb}
 use lib.ListN.{length, set, length-set}
 use borrow.Author.Tests.{eq-eqb}
 use Rattle.laws.specs.Test.{bit, none}
-use Rattle.laws.proofs.Test.{le-or-lt, and-left, and-right, and-both, and-fails-left, eqb-of, neqb-of, bit-no, none-all, none-not}
+use Rattle.laws.proofs.Test.{le-or-lt, and-left, and-right, and-both, and-fails-left, eqb-of, neqb-of, bit-no, none-all, none-not, same-or-not}
 use Rattle.laws.proofs.Climb.{Falls}
 use Rattle.theory.specs.Grants.{is}
 use Rattle.theory.specs.Tree.{Tree, isChild}
 use Rattle.theory.specs.Points.{closes}
 use Rattle.table.specs.Columns.{entry}
 use Rattle.slice.specs.Changes.{Entries}
-use Rattle.corners.specs.Lent.{lentTree, closesOver}
 use Rattle.slice.proofs.Between.{set-here, set-there}
+use Rattle.corners.specs.Lent.{lentTree, closesOver}
 
 and-given : (a b : Bool) → T a → bit (a && b) ≡ bit b
 and-given true b y = refl
@@ -100,7 +100,7 @@ module _ (parents flags ends : List ℕ) (pass period : ℕ) where
         let there : (w : ℕ) → (w ≡ parent → ⊥) → entry (set (set marks v x) parent 0) w ≡ entry (set marks v x) w = λ w d. set-there (set marks v x) parent w 0 d in
         record {
           long = simp (length-set, length-set) (h .long);
-          each = λ w l. elim (same w parent) [
+          each = λ w l. elim (same-or-not w parent) [
             | inl d ↦
                 rw d
                 (set-here (set marks v x) parent 0 (simp length-set (omega (arith, h .long)))
@@ -115,6 +115,3 @@ module _ (parents flags ends : List ℕ) (pass period : ℕ) where
           ];
           fresh = λ w l. there w (omega arith) ∙ (set-there marks v w x (omega arith) ∙ h .fresh w (omega arith));
         }
-      where
-        same : (a b : ℕ) → (a ≡ b) ⊎ (a ≡ b → ⊥)
-        same a b = elim (le-or-lt a b) [ inl p ↦ elim (le-or-lt b a) [ inl q ↦ inl (omega arith) | inr q ↦ inr (omega arith) ] | inr p ↦ inr (omega arith) ]

@@ -9,7 +9,7 @@ use lib.Dec.{ltb, lt→ltb}
 use lib.Arith.{le→nltb}
 use lib.ListN.{length, set, length-set}
 use Rattle.laws.specs.Test.{pick}
-use Rattle.laws.proofs.Test.{either, le-or-lt, pick-yes, pick-no, none-not}
+use Rattle.laws.proofs.Test.{either, le-or-lt, pick-yes, pick-no, none-not, same-or-not}
 use Rattle.laws.proofs.Minimum.{minimum-default}
 use Rattle.theory.specs.Grants.{is}
 use Rattle.theory.specs.Tree.{Tree, isChild, Child, isLeaf, before, upto, own}
@@ -18,8 +18,8 @@ use Rattle.theory.proofs.Paths.{child-parent, child-below, child-of, some-child
 use Rattle.theory.proofs.Points.{own-yes, own-no}
 use Rattle.theory.proofs.Rest.{rest-leaf, rest-child, rest-some}
 use Rattle.table.specs.Columns.{entry}
-use Rattle.corners.specs.Lent.{Lent, lentTree, ownOver}
 use Rattle.slice.proofs.Between.{set-here, set-there}
+use Rattle.corners.specs.Lent.{Lent, lentTree, ownOver}
 
 module _ (parents ticks flags : List ℕ) (pass n period : ℕ) where
   abbrev tree : Tree
@@ -133,11 +133,8 @@ module _ (parents ticks flags : List ℕ) (pass n period : ℕ) where
         at-v : entry after v ≡ resting v
         at-v = set-there (set rests v x) parent v y (omega (arith, earlier)) ∙ (set-here rests v x (omega (arith, h .long, small, lent .few)) ∙ e)
 
-        same : (a b : ℕ) → (a ≡ b) ⊎ (a ≡ b → ⊥)
-        same a b = elim (le-or-lt a b) [ inl l ↦ elim (le-or-lt b a) [ inl m ↦ inl (omega arith) | inr m ↦ inr (omega arith) ] | inr l ↦ inr (omega arith) ]
-
         falls-to : (u : ℕ) → u < v → entry after u ≤ entry rests u
-        falls-to u l = elim (same u parent) [
+        falls-to u l = elim (same-or-not u parent) [
           | inl d ↦ omega (arith, ap (entry after) d, ap (entry rests) d, here)
           | inr d ↦ omega (arith, there u d (omega arith))
         ]
@@ -160,7 +157,7 @@ module _ (parents ticks flags : List ℕ) (pass n period : ℕ) where
                 omega (arith, ap (entry after) f, here, ap resting d, e)
             | inr a ↦ omega (arith, falls-to u l, h .lower u w (omega arith) c (omega arith))
           ];
-          met = λ u l. elim (same u parent) [
+          met = λ u l. elim (same-or-not u parent) [
             | inl d ↦ elim (le-or-lt (entry rests parent) x) [
               | inl a ↦ kept u l (omega (arith, ap (entry after) d, ap (entry rests) d, here))
               | inr a ↦ inr (v, child-of tree u v z small (sym (d ∙ p)), omega arith, omega (arith, ap (entry after) d, here, e))

@@ -26,11 +26,10 @@ use Rattle.theory.proofs.Rest.{rest-root}
 use Rattle.theory.proofs.Corners.{corners-decide}
 use Rattle.theory.proofs.Filled.{Lowered, may-lower, filled}
 use Rattle.table.specs.Columns.{entry}
-use Rattle.slice.specs.Changes.{Entries}
+use Rattle.slice.specs.Changes.{Entries, Becomes, Until, Longer}
 use Rattle.corners.specs.Lent.{Lent, Below, Rises, lentTree, ownOver, beforeOver, opensOver, closesOver}
-use Rattle.slice.specs.Changes.{Becomes, Until, Longer}
-use Rattle.filling.specs.Sets.{Inner, Across, Corners}
 use Rattle.corners.proofs.Resting.{own-over}
+use Rattle.filling.specs.Sets.{Inner, Across, Corners}
 use Rattle.filling.proofs.Walking.{corners-long}
 use Rattle.filling.proofs.Crossing.{Stretches, to-end, to-location, whole-length, ends-with-cycle}
 

@@ -8,6 +8,7 @@ use lib.Dec.{T, eqb, leb, leb→le, ltb, ltb→lt}
 use Rattle.laws.specs.Found.{first}
 use Rattle.laws.proofs.Test.{and-left, and-right}
 use Rattle.laws.proofs.Climb.{Falls}
+use Rattle.laws.proofs.Cases.{of-false, not-not}
 use Rattle.theory.specs.Tree.{isLeaf, end}
 use Rattle.theory.proofs.Guards.{SomeValue}
 use Rattle.table.specs.declared.Table.{Table}
@@ -15,7 +16,6 @@ use Rattle.table.specs.Table.{locationAt, treeOf}
 use Rattle.table.specs.Ranged.{Ranged}
 use Rattle.table.specs.Columns.{parentColumn, ticksColumn, lowColumn, highColumn, entry, zeros, treeOver, leafOver, guardsOver, gapIn, overlapIn, missesPeriod}
 use Rattle.table.specs.Rules.{within, isPlaced, breaksCount, breaksValue, breaksShape, breaksGap, breaksOverlap, breaksPeriod, lowestLocation}
-use Rattle.table.proofs.Flags.{of-false, not-not}
 use Rattle.table.proofs.Copied.{column-entry}
 use Rattle.judge.proofs.Placed.{placed-child}
 

@@ -7,11 +7,11 @@ use lib.Dec.{T}
 use borrow.Author.Count.{below-more}
 use Rattle.laws.specs.Found.{Found, nobody, at, first}
 use Rattle.laws.proofs.First.{first-found, first-none}
+use Rattle.laws.proofs.Cases.{of-true, of-false}
 use Rattle.table.specs.declared.Refusal.{Refusal}
 use Rattle.table.specs.declared.Table.{Table}
 use Rattle.table.specs.Rules.{breaksShape, breaksGap, breaksOverlap, breaksPeriod, refusal, fine, refuse, foundIf, lowestLocation, locationPlace}
 use Rattle.table.specs.Columns.{judgedTree}
-use Rattle.table.proofs.Flags.{of-true, of-false}
 
 -- ---- the search
 
@@ -47,9 +47,6 @@ module _ (number : ℕ) (place : ℕ → ℕ) (r : Refusal) where
   pub passed : (o : Found) → 0 < number → r ≡ refuse number place o fine → r .number ≡ 0 → o ≡ nobody
   passed nobody p e z = refl
   passed (at v) p e z = absurd (omega (arith, ap (λ (x : Refusal). x .number) e))
-
-pub hands-on : (number : ℕ) (place : ℕ → ℕ) (o : Found) (next : Refusal) → o ≡ nobody → refuse number place o next ≡ next
-hands-on number place o next e = rw e
 
 -- ---- a rule of the whole table
 

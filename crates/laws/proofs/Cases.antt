@@ -1,21 +1,28 @@
--- The cases of a test and of a number, for definitions that go by cases. Assumes nothing.
+-- A test and a number by their cases: as facts, and in definitions that go by cases. Assumes nothing.
 use mathlib.Core.Path.{_≡_, refl}
 use mathlib.Core.Bool.{Bool, true, false, not}
-use mathlib.Core.Logic.{_⊎_, inl, inr}
 use Prim.Native.Nat.{ℕ, zero, suc}
-use native.Mathlib.Omega.{arith}
 use lib.Dec.{T}
 
--- a test's answer, as code has it
-pub holds : (b : Bool) → b ≡ true → T b
-holds b e = rw e tt
+-- a test's answer as code has it, and as a fact
+pub is-true : (b : Bool) → T b → b ≡ true
+is-true true t = refl
+is-true false t = absurd t
 
-pub fails : (b : Bool) → b ≡ false → T (not b)
-fails b e = rw e tt
+pub is-false : (b : Bool) → T (not b) → b ≡ false
+is-false true t = absurd t
+is-false false t = refl
 
-pub zero-or-not : (n : ℕ) → (n ≡ 0) ⊎ ¬ (n ≡ 0)
-zero-or-not zero = inl refl
-zero-or-not (suc n) = inr (λ e. omega arith)
+pub of-true : (b : Bool) → b ≡ true → T b
+of-true b e = rw e tt
+
+pub of-false : (b : Bool) → b ≡ false → T (not b)
+of-false b e = rw e tt
+
+-- what is not false is true
+pub not-not : (b : Bool) → T (not (not b)) → T b
+not-not true t = tt
+not-not false t = absurd t
 
 module _ {A : Type 0} where
   pub zero-case : (n : ℕ) (a : A) (f : ℕ → A) → n ≡ 0 → elim n as (λ (k : ℕ). A) [ zero ↦ a | suc m ↦ f (suc m) ] ≡ a

@@ -21,6 +21,9 @@ le-or-lt a b = go (decLe a b)
     go (yes h) = inl h
     go (no h) = inr (omega arith)
 
+pub same-or-not : (a b : ℕ) → (a ≡ b) ⊎ ¬ (a ≡ b)
+same-or-not a b = elim (le-or-lt a b) [ inl l ↦ elim (le-or-lt b a) [ inl m ↦ inl (omega arith) | inr m ↦ inr (omega arith) ] | inr l ↦ inr (omega arith) ]
+
 -- the last of the numbers below n + 1, or one before
 pub last-or-before : (j n : ℕ) → j < suc n → (j ≡ n) ⊎ (j < n)
 last-or-before j n l = elim (le-or-lt n j) [ inl h ↦ inl (omega arith) | inr h ↦ inr h ]

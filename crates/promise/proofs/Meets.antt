@@ -23,7 +23,7 @@ use Rattle.runner.specs.declared.StepAnswer.{StepAnswer}
 use Rattle.runner.specs.History.{Inputs, answerAt, History, granted, releases, service}
 use Rattle.runner.proofs.Follows.{follows, accepted, history-well-formed}
 use Rattle.runner.proofs.Granted.{granted-runs}
-use Rattle.promise.proofs.Prefix.{upTo, answer-same, inputs-same, for-ever}
+use Rattle.promise.proofs.Prefix.{stopped, answer-same, inputs-same, for-ever}
 
 not-late : (b c : Bool) → T (not c) → (b && c) ≡ false
 not-late true true h = absurd h
@@ -45,4 +45,4 @@ module _ (t : Table) (ranged : Ranged t) (q : ℕ) (meets : Meets (grants (treeO
       → inSet (answerAt t values sets n .late) i ≡ false
   never-late sets inputs N h n i l m e =
       ap (λ (a : StepAnswer). inSet (a .late) i) (answer-same t values sets N n l)
-      ∙ ever (upTo sets N) (inputs-same t values sets N inputs) (for-ever t values sets N ranged inputs h) n i m e
+      ∙ ever (stopped sets N) (inputs-same t values sets N inputs) (for-ever t values sets N ranged inputs h) n i m e

@@ -9,6 +9,7 @@ use lib.Dec.{T, eqb→eq, ltb, lt→ltb}
 use Rattle.laws.specs.Bits.{inSet}
 use Rattle.laws.specs.Found.{at}
 use Rattle.laws.proofs.Test.{and-both}
+use Rattle.laws.proofs.Cases.{is-true}
 use Rattle.theory.specs.Grants.{Stream}
 use Rattle.theory.specs.Tree.{grant, grants}
 use Rattle.theory.specs.Guards.{walk}
@@ -22,7 +23,6 @@ use Rattle.table.specs.declared.Table.{Table}
 use Rattle.table.specs.Table.{taskAt, treeOf, tasksOf}
 use Rattle.table.specs.Rules.{WellFormed}
 use Rattle.table.specs.Ranged.{Ranged}
-use Rattle.table.proofs.Flags.{is-true}
 use Rattle.table.proofs.WellFormed.{tasks-lawful, well-formed-judged}
 use Rattle.runner.specs.History.{Inputs, answerAt, History, granted, releases, Reached}
 use Rattle.runner.proofs.Follows.{follows}

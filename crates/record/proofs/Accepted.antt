@@ -15,8 +15,8 @@ use Rattle.table.proofs.Unbroken.{refused-number}
 use Rattle.table.proofs.WellFormed.{judged-well-formed, well-formed-judged}
 use Rattle.table.proofs.Same.{judged-same}
 use Rattle.table.proofs.Widths.{high-in-width, GapInWidth, well-formed-in-width}
-use Rattle.record.specs.declared.ReadAnswer.{ReadAnswer}
 use Rattle.format.specs.Format.{recordOf, payloadOffset, payloadLength}
+use Rattle.record.specs.declared.ReadAnswer.{ReadAnswer}
 use Rattle.record.specs.Reading.{fieldsOf, readOf}
 use Rattle.record.proofs.Payloads.{Bytes}
 use Rattle.record.proofs.Places.{payloadAt}

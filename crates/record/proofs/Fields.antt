@@ -13,9 +13,9 @@ use Rattle.laws.proofs.Test.{pick-yes, pick-no}
 use Rattle.laws.proofs.Cases.{zero-case, suc-case, true-case, false-case}
 use Rattle.table.specs.declared.Table.{Table}
 use Rattle.table.specs.Rules.{refusal, judged}
-use Rattle.record.specs.declared.ReadAnswer.{ReadAnswer}
 use Rattle.format.specs.Format.{headerOf, locationOf, taskOf}
 use Rattle.format.specs.Tests.{isField, left, headerNumber, isLocation, isTask, fieldNumber}
+use Rattle.record.specs.declared.ReadAnswer.{ReadAnswer}
 use Rattle.record.specs.Reading.{refused, accepted, withLocation, withTask, fieldsFrom, mostFields, fieldsOf, readOf}
 
 -- a number of refusal that is 0: the test in front of it

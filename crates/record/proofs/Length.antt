@@ -5,14 +5,13 @@ use mathlib.Core.Logic.{inl, inr}
 use Prim.Native.Nat.{ℕ, zero, suc, _+_, _≤_}
 use native.Mathlib.Omega.{arith}
 use lib.ListN.{length}
-use Rattle.laws.proofs.Test.{either, le-or-lt}
+use Rattle.laws.proofs.Test.{either, le-or-lt, same-or-not}
 use Rattle.table.specs.declared.Table.{Table}
 use Rattle.table.specs.Rules.{judged}
-use Rattle.record.specs.declared.ReadAnswer.{ReadAnswer}
 use Rattle.format.specs.Format.{recordLength}
 use Rattle.format.specs.Tests.{left, isLocation, headerNumber, fieldNumber}
+use Rattle.record.specs.declared.ReadAnswer.{ReadAnswer}
 use Rattle.record.specs.Reading.{fieldsFrom, mostFields, fieldsOf, readOf}
-use Rattle.laws.proofs.Cases.{zero-or-not}
 use Rattle.record.proofs.Fields.{header-refused, header-fine, header-met, location-met, task-met, location-read, task-read, field-refused, end-without-location, end-read, read-refused, read-judged, read-accepted}
 
 -- a field that is not refused has its tag and length
@@ -27,11 +26,11 @@ from-length : (k : ℕ) (s : List ℕ) (at : ℕ) (t : Table) → at ≡ recordL
 unfolding fieldsFrom
 from-length zero s at t a l e = absurd (omega arith)
 from-length (suc k) s at t a l e = elim (le-or-lt (length s) at) [
-  | inl over ↦ elim (zero-or-not (t .locations)) [
+  | inl over ↦ elim (same-or-not (t .locations) 0) [
     | inl z ↦ absurd (omega (arith, rw (end-without-location (suc k) k s at t refl over z) at e))
     | inr h ↦ rw (end-read (suc k) k s at t refl over h) (omega arith)
   ]
-  | inr more ↦ elim (zero-or-not (fieldNumber s at (t .locations) (t .tasks))) [
+  | inr more ↦ elim (same-or-not (fieldNumber s at (t .locations) (t .tasks)) 0) [
     | inl z ↦ elim (either (isLocation s at (t .tasks))) [
       | inl y ↦
           let met = location-met s at _ _ z y in
@@ -48,7 +47,7 @@ from-length (suc k) s at t a l e = elim (le-or-lt (length s) at) [
 
 module _ (s : List ℕ) where
   pub accepted-length : fieldsOf s .refusal .number ≡ 0 → recordLength (fieldsOf s .table) ≡ length s
-  accepted-length e = elim (zero-or-not (headerNumber s)) [
+  accepted-length e = elim (same-or-not (headerNumber s) 0) [
     | inl z ↦
         let met = header-met s z in
         let next = header-fine s z in
@@ -58,8 +57,8 @@ module _ (s : List ℕ) where
 
   -- the judge keeps the table
   pub read-length : readOf s .refusal .number ≡ 0 → recordLength (readOf s .table) ≡ length s
-  read-length e = elim (zero-or-not (fieldsOf s .refusal .number)) [
-    | inl f ↦ elim (zero-or-not (judged (fieldsOf s .table) .number)) [
+  read-length e = elim (same-or-not (fieldsOf s .refusal .number) 0) [
+    | inl f ↦ elim (same-or-not (judged (fieldsOf s .table) .number) 0) [
       | inl j ↦ rw (read-accepted s f j) (accepted-length f)
       | inr h ↦ absurd (h (rw (read-judged s f h) at e))
     ]

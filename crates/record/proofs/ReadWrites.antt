@@ -17,9 +17,9 @@ use Rattle.table.specs.Table.{noLocation, noTask}
 use Rattle.table.specs.Rules.{fine}
 use Rattle.table.specs.Ranged.{RangedLocation, RangedTask}
 use Rattle.table.proofs.Widths.{InWidth}
-use Rattle.record.specs.declared.ReadAnswer.{ReadAnswer}
 use Rattle.format.specs.Format.{number16, headerOf, locationOf, taskOf, headerField, locationField, taskField, recordOf}
 use Rattle.format.specs.Tests.{isField, left, headerNumber, isLocation, fieldNumber}
+use Rattle.record.specs.declared.ReadAnswer.{ReadAnswer}
 use Rattle.record.specs.Reading.{withLocation, withTask, fieldsFrom, mostFields, fieldsOf}
 use Rattle.record.proofs.Payloads.{Bytes, bytes-drop, number-in-width, location-in-width, task-in-width, bytes-from, header-bytes-back, location-bytes-back, task-bytes-back}
 use Rattle.record.proofs.Pieces.{row, each-stored, row-stored}

@@ -17,9 +17,9 @@ use Rattle.table.specs.declared.Table.{Table}
 use Rattle.table.specs.Table.{noLocation, noTask, locationAt, taskAt, Same}
 use Rattle.table.specs.Rules.{fine}
 use Rattle.table.proofs.Widths.{InWidth}
-use Rattle.record.specs.declared.ReadAnswer.{ReadAnswer}
 use Rattle.format.specs.Format.{number16, headerOf, locationOf, taskOf, locationField, taskField, locationOffset, taskOffset, recordOf}
 use Rattle.format.specs.Tests.{isField, isLocation}
+use Rattle.record.specs.declared.ReadAnswer.{ReadAnswer}
 use Rattle.record.specs.Reading.{accepted, withLocation, withTask, fieldsFrom, mostFields, fieldsOf}
 use Rattle.record.proofs.Payloads.{location-back, task-back, header-back}
 use Rattle.record.proofs.Pieces.{each-stored}

@@ -6,8 +6,8 @@ use lib.ListN.{take, drop}
 use lib.Dec.{leb}
 use Rattle.table.specs.declared.Refusal.{Refusal}
 use Rattle.table.specs.Rules.{refusal, fine}
-use Rattle.record.specs.declared.FieldAnswer.{FieldAnswer}
 use Rattle.format.specs.Format.{payloadOffset, payloadLength, fieldCount}
+use Rattle.record.specs.declared.FieldAnswer.{FieldAnswer}
 use Rattle.record.specs.Reading.{readOf}
 
 -- All the reading rules first; then AMOUNT for k past the last field.

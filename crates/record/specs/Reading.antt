@@ -10,9 +10,9 @@ use Rattle.table.specs.declared.Table.{Table}
 use Rattle.table.specs.declared.Refusal.{Refusal}
 use Rattle.table.specs.Table.{emptyTable}
 use Rattle.table.specs.Rules.{refusal, fine, judged}
-use Rattle.record.specs.declared.ReadAnswer.{ReadAnswer}
 use Rattle.format.specs.Format.{headerOf, locationOf, taskOf}
 use Rattle.format.specs.Tests.{headerNumber, isLocation, fieldNumber}
+use Rattle.record.specs.declared.ReadAnswer.{ReadAnswer}
 
 -- ---- answers
 

@@ -6,13 +6,13 @@ use Prim.Native.Nat.{ℕ, _+_}
 use lib.Dec.{T, T-not, not-T, eqb, eqb→eq, leb, leb→le, le→leb, ltb, ltb→lt, lt→ltb}
 use Rattle.laws.specs.Test.{none}
 use Rattle.laws.proofs.Test.{and-left, and-right, and-both, and-fails-right, or-cases, or-left, or-right, eqb-of, none-all, none-each}
+use Rattle.laws.proofs.Cases.{not-not}
 use Rattle.theory.specs.Task.{Task}
 use Rattle.theory.specs.Job.{Job, Open, LawfulJob}
 use Rattle.table.specs.declared.Table.{Table}
 use Rattle.table.specs.Table.{treeOf, tasksOf}
-use Rattle.table.proofs.Flags.{not-not}
-use Rattle.runner.specs.declared.State.{State}
 use Rattle.job.specs.Entry.{jobOf, noJob}
+use Rattle.runner.specs.declared.State.{State}
 use Rattle.runner.specs.State.{jobAt, Lawful, isIdle, isOpen, isLawfulJob, isZero, unlawful, leftOver, isLawful}
 
 -- ---- one job

@@ -13,6 +13,7 @@ use Rattle.laws.specs.Bits.{inSet, setOf}
 use Rattle.laws.proofs.Test.{le-or-lt, last-or-before, and-left, and-right, and-fails-right, or-left, or-right, or-cases}
 use Rattle.laws.proofs.First.{first-none, first-nobody}
 use Rattle.laws.proofs.Bits.{set-small, in-set-of, in-set-past}
+use Rattle.laws.proofs.Cases.{of-false}
 use Rattle.theory.specs.Tree.{grant}
 use Rattle.theory.specs.Guards.{move, walk}
 use Rattle.theory.specs.Job.{Job, fresh, age, isLate}
@@ -22,15 +23,14 @@ use Rattle.table.specs.declared.Refusal.{Refusal}
 use Rattle.table.specs.Table.{treeOf, tasksOf}
 use Rattle.table.specs.Rules.{fine, judged, WellFormed}
 use Rattle.table.specs.Ranged.{Ranged}
-use Rattle.table.proofs.Flags.{of-false}
+use Rattle.jobs.proofs.Rows.{row-at}
+use Rattle.jobs.proofs.Service.{says-chosen}
 use Rattle.runner.specs.declared.State.{State}
 use Rattle.runner.specs.declared.FreshAnswer.{FreshAnswer}
 use Rattle.runner.specs.declared.StepAnswer.{StepAnswer}
 use Rattle.runner.specs.State.{jobAt, positionOf, Lawful, freshState, freshAnswer}
 use Rattle.runner.specs.Step.{isEarly, valueAt, stepped}
 use Rattle.runner.specs.History.{Inputs, stateAt, answerAt, History, walked, granted, releases, service, jobsBefore, Ready, Obeys}
-use Rattle.jobs.proofs.Rows.{row-at}
-use Rattle.jobs.proofs.Service.{says-chosen}
 use Rattle.runner.proofs.Same.{chosen-same, served-same, step-same}
 use Rattle.runner.proofs.Agrees.{lawful-of}
 use Rattle.runner.proofs.Refusals.{Passes, well-formed, fresh-judged, fresh-given, step-given, accepted-passes, passes-accepted}

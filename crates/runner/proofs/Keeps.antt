@@ -18,11 +18,11 @@ use Rattle.table.specs.declared.Refusal.{Refusal}
 use Rattle.table.specs.Table.{treeOf, tasksOf}
 use Rattle.table.specs.Rules.{fine, WellFormed}
 use Rattle.table.specs.Ranged.{Ranged}
-use Rattle.runner.specs.declared.State.{State}
 use Rattle.job.specs.Entry.{jobOf}
+use Rattle.jobs.proofs.Rows.{row-at, row-past}
+use Rattle.runner.specs.declared.State.{State}
 use Rattle.runner.specs.State.{jobAt, positionOf, stateOf, Lawful, freshState, freshAnswer}
 use Rattle.runner.specs.Step.{valueAt, stepRefusal, stepped, stepAnswer}
-use Rattle.jobs.proofs.Rows.{row-at, row-past}
 use Rattle.runner.proofs.Leads.{onto-inside}
 use Rattle.runner.proofs.Agrees.{lawful-says}
 use Rattle.runner.proofs.Refusals.{well-formed, fresh-given, step-refused, step-given, accepted-passes}

@@ -5,7 +5,7 @@ use Prim.Native.Nat.{ℕ, _≤_, _<_}
 use native.Mathlib.Omega.{arith}
 use Rattle.laws.specs.Test.{none}
 use Rattle.laws.proofs.Test.{none-not, none-all}
-use Rattle.table.proofs.Flags.{is-true, is-false, of-true}
+use Rattle.laws.proofs.Cases.{is-true, is-false, of-true}
 use Rattle.judge.proofs.Lowest.{Kept}
 
 module _ (breaks : ℕ → Bool) (n i : ℕ) where

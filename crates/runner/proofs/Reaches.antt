@@ -16,6 +16,7 @@ use Rattle.laws.specs.Bits.{setOf}
 use Rattle.laws.proofs.Test.{le-or-lt}
 use Rattle.laws.proofs.Up.{up-at, up-later}
 use Rattle.laws.proofs.Bits.{set-small, in-set-of, in-set-past}
+use Rattle.laws.proofs.Cases.{is-false}
 use Rattle.theory.specs.Tree.{Position, grant}
 use Rattle.theory.specs.Guards.{top, onto, move, walk}
 use Rattle.theory.specs.Steps.{edf, Accepted}
@@ -24,7 +25,6 @@ use Rattle.table.specs.declared.Refusal.{Refusal}
 use Rattle.table.specs.Table.{treeOf, tasksOf}
 use Rattle.table.specs.Rules.{fine, judged, WellFormed}
 use Rattle.table.specs.Ranged.{Ranged}
-use Rattle.table.proofs.Flags.{is-false}
 use Rattle.runner.specs.Step.{valueAt}
 use Rattle.runner.specs.History.{walked, releases, service, Reached}
 use Rattle.runner.proofs.Refusals.{well-formed, fresh-judged}

@@ -3,17 +3,16 @@
 use mathlib.Core.Path.{_≡_, refl, ap, ap₂, _∙_}
 use mathlib.Core.Bool.{Bool, true, false, not}
 use mathlib.Core.List.{List}
-use Prim.Native.Nat.{ℕ, zero, suc, _≤_}
+use Prim.Native.Nat.{ℕ, zero, suc}
 use native.Mathlib.Omega.{arith}
 use lib.Dec.{T}
 use Rattle.laws.specs.Found.{Found, nobody, at}
+use Rattle.laws.proofs.Cases.{is-true}
 use Rattle.table.specs.declared.Table.{Table}
 use Rattle.table.specs.declared.Refusal.{Refusal}
 use Rattle.table.specs.Rules.{fine, refuse, foundIf, judged, WellFormed}
 use Rattle.table.specs.Ranged.{Ranged}
-use Rattle.table.proofs.Flags.{is-true}
-use Rattle.table.proofs.Unbroken.{unbroken, refused-number}
-use Rattle.table.proofs.Sentences.{count-rule}
+use Rattle.table.proofs.Unbroken.{refused-number}
 use Rattle.table.proofs.WellFormed.{judged-well-formed}
 use Rattle.runner.specs.declared.State.{State}
 use Rattle.runner.specs.State.{jobAt, isLawful, freshState, emptyState, unless, freshAnswer}
@@ -29,10 +28,6 @@ unless-refused (suc n) a b h = refl
 -- the numbers of a table are in their ranges, so one that is not refused is well formed
 pub well-formed : (t : Table) → Ranged t → judged t .number ≡ 0 → WellFormed t
 well-formed t r e = judged-well-formed t (λ v l. omega (arith, r .location v .high)) (refused-number t e)
-
--- and so are the numbers of its locations and tasks
-pub counted : (t : Table) → judged t .number ≡ 0 → (t .locations ≤ 128) × (t .tasks ≤ 32)
-counted t e = let r = count-rule t .0 (unbroken t e .count) in (r .0 .1, r .1)
 
 -- ---- the fresh state
 

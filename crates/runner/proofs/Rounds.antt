@@ -15,8 +15,7 @@ use Rattle.theory.specs.Steps.{names, released, served, step, waits, earliest}
 use Rattle.table.specs.declared.Table.{Table}
 use Rattle.table.specs.Table.{tasksOf}
 use Rattle.job.specs.declared.Job.{Job as Entry}
-use Rattle.jobs.specs.Entries.{jobIn, row}
-use Rattle.jobs.specs.Entries.{choiceOf, chosenBy, aged}
+use Rattle.jobs.specs.Entries.{jobIn, row, choiceOf, chosenBy, aged}
 use Rattle.jobs.proofs.Rows.{row-at, row-same}
 use Rattle.jobs.proofs.Service.{says-chosen}
 

@@ -14,9 +14,9 @@ use Rattle.table.specs.declared.Table.{Table}
 use Rattle.table.specs.declared.Refusal.{Refusal}
 use Rattle.table.specs.Table.{treeOf, tasksOf}
 use Rattle.table.specs.Rules.{fine, refuse, foundIf, judged}
+use Rattle.jobs.specs.Entries.{choiceOf}
 use Rattle.runner.specs.declared.State.{State}
 use Rattle.runner.specs.declared.places.Place.{Place}
-use Rattle.jobs.specs.Entries.{choiceOf}
 use Rattle.runner.specs.declared.StepAnswer.{StepAnswer}
 use Rattle.runner.specs.State.{jobAt, positionOf, stateOf, isLawful, unless}
 

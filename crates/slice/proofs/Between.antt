@@ -8,8 +8,7 @@ use lib.ListN.{length, set, replicate, length-set, length-replicate, getD-replic
 use lib.Seq.{getD-set-same, getD-set-other}
 use Rattle.laws.proofs.Test.{le-or-lt}
 use Rattle.table.specs.Columns.{entry}
-use Rattle.slice.specs.Changes.{Entries}
-use Rattle.slice.specs.Changes.{Becomes}
+use Rattle.slice.specs.Changes.{Entries, Becomes}
 
 -- the entry that is written
 pub set-here : (xs : List ℕ) (k x : ℕ) → k < length xs → entry (set xs k x) k ≡ x

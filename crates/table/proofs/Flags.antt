@@ -1,30 +1,11 @@
--- A flag that is true or false, and the same as a fact. Assumes nothing.
-use mathlib.Core.Path.{_≡_, refl, sym, ap, _∙_}
+-- The flags that the judge computes, as the rules say them. Assumes nothing.
+use mathlib.Core.Path.{_≡_, sym, ap, _∙_}
 use mathlib.Core.Bool.{Bool, true, false, not, _&&_, _||_}
 use mathlib.Core.Logic.{inl, inr}
 use Prim.Native.Nat.{ℕ}
-use lib.Dec.{T, leb, ltb}
+use lib.Dec.{leb, ltb}
 use borrow.Author.Tests.{lt-ltb, le-ltb, le-leb, lt-leb}
 use Rattle.laws.proofs.Test.{le-or-lt}
-
-pub is-true : (b : Bool) → T b → b ≡ true
-is-true true t = refl
-is-true false t = absurd t
-
-pub is-false : (b : Bool) → T (not b) → b ≡ false
-is-false true t = absurd t
-is-false false t = refl
-
-pub of-true : (b : Bool) → b ≡ true → T b
-of-true b e = rw e tt
-
-pub of-false : (b : Bool) → b ≡ false → T (not b)
-of-false b e = rw e tt
-
--- a flag that is not false is true
-pub not-not : (b : Bool) → T (not (not b)) → T b
-not-not true t = tt
-not-not false t = absurd t
 
 pub ltb-is-not-leb : (a b : ℕ) → ltb b a ≡ not (leb a b)
 ltb-is-not-leb a b = elim (le-or-lt a b) [

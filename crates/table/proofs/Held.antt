@@ -14,13 +14,13 @@ use Rattle.laws.specs.Found.{Found, nobody, at, first, IsFirst}
 use Rattle.laws.proofs.Test.{either, le-or-lt, and-left, and-right, and-both, and-fails-left, and-fails-right, eqb-of, pick-yes, pick-no, some-of, none-not, none-all, none-each}
 use Rattle.laws.proofs.Sum.{sum-last₀, sum-zero}
 use Rattle.laws.proofs.First.{first-is, first-found, first-none}
+use Rattle.laws.proofs.Cases.{is-true, is-false, of-false, not-not}
 use Rattle.theory.specs.Tree.{Tree, isChild, isLeaf}
 use Rattle.theory.specs.Guards.{top, holds, orRoot, onto}
 use Rattle.theory.specs.Sweep.{overlaps}
 use Rattle.theory.proofs.Guards.{SomeValue}
 use Rattle.theory.proofs.Sweep.{Overlap, overlaps-yes, widths-yes, widths-no}
 use Rattle.table.specs.Columns.{leadsIn, gapIn, overlapIn, widthsIn}
-use Rattle.table.proofs.Flags.{is-true, is-false, of-false, not-not}
 
 module _ (t : Tree) (v : ℕ) where
   -- ---- the child that a value leads to

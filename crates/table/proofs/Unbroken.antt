@@ -29,7 +29,7 @@ passes : (n : ℕ) (place : ℕ → ℕ) (o : Found) (next : Refusal) → refuse
 passes n place nobody next e = (refl, e)
 passes n place (at v) next e = absurd (omega arith)
 
-refuse-nobody : (n : ℕ) (place : ℕ → ℕ) (o : Found) (next : Refusal) → o ≡ nobody → refuse n place o next ≡ next
+pub refuse-nobody : (n : ℕ) (place : ℕ → ℕ) (o : Found) (next : Refusal) → o ≡ nobody → refuse n place o next ≡ next
 refuse-nobody n place o next e = rw e
 
 unfound : (b : Bool) → foundIf b ≡ nobody → T (not b)

@@ -111,6 +111,10 @@ judged-well-formed t high e = unbroken-well-formed t (unbroken t (ap (λ r. r .n
 pub well-formed-judged : (t : Table) → WellFormed t → judged t ≡ fine
 well-formed-judged t w = unbroken-fine t (breaks-none t w)
 
+-- the counts, of any table that is judged fine
+pub judged-counts : (t : Table) → judged t .number ≡ 0 → (t .locations ≤ 128) × (t .tasks ≤ 32)
+judged-counts t e = let r = count-rule t .0 (unbroken t e .count) in (r .0 .1, r .1)
+
 -- ---- what the theory asks
 
 pub tasks-lawful : (t : Table) → WellFormed t → (q : ℕ) → Each (tasksOf t) q (λ i. LawfulTask (tasksOf t .task i))

@@ -1,14 +1,14 @@
 -- Corners are enough: a point's start moves up over what does not pass and down over what passes, its end the other way
 -- round, and each move gives a point that is as good. Assumes nothing.
 use mathlib.Core.Path.{_≡_, refl, sym, ap, subst}
-use mathlib.Core.Bool.{Bool, true, false, not, _&&_, _||_}
+use mathlib.Core.Bool.{Bool, not, _&&_}
 use mathlib.Core.Logic.{_⊎_, inl, inr}
 use Prim.Native.Nat.{ℕ, zero, suc, _+_, _-_, _*_, _≤_, _<_}
 use native.Mathlib.Nat.{le-refl, zero-mul}
 use native.Mathlib.Omega.{arith}
 use lib.Dec.{T, eqb}
 use Rattle.laws.specs.Test.{any, none}
-use Rattle.laws.proofs.Test.{either, le-or-lt, and-left, and-right, and-both, some-of}
+use Rattle.laws.proofs.Test.{either, le-or-lt, and-left, and-right, and-both, some-of, or-left, or-right}
 use Rattle.theory.specs.Tree.{Tree, isChild, Child, before, upto, start, end, Formed, own}
 use Rattle.theory.specs.Cycles.{system, cycleLeast}
 use Rattle.theory.specs.Points.{Above, self, below, rest, Point, empty, within, crosses, opens, closes}
@@ -17,14 +17,6 @@ use Rattle.theory.proofs.Above.{above-child, above-trans, above-step, a
 use Rattle.theory.proofs.Period.{cycle-least}
 use Rattle.theory.proofs.Points.{own-yes, own-no, rest-le, rest-at, Deciding, points-decide}
 use Rattle.theory.proofs.Rest.{rest-root}
-
-or-left : (a b : Bool) → T a → T (a || b)
-or-left true b t = tt
-or-left false b t = absurd t
-
-or-right : (a b : Bool) → T b → T (a || b)
-or-right true b t = tt
-or-right false b t = t
 
 module _ (t : Tree) (formed : Formed t) (p : ℕ → Bool) where
   abbrev P : ℕ

@@ -1,38 +1,19 @@
 -- What writing answers and leaves, in each of its three cases: judged, no room, written. Assumes nothing.
 use mathlib.Core.Path.{_≡_, sym, ap, _∙_}
-use mathlib.Core.Bool.{Bool, true, false, not, _&&_}
 use mathlib.Core.List.{List}
-use Prim.Native.Nat.{ℕ, suc, _≤_, _<_}
+use Prim.Native.Nat.{ℕ, _≤_, _<_}
 use native.Mathlib.Omega.{arith}
 use lib.ListN.{length}
 use lib.Seq.{sets}
-use lib.Dec.{T, leb, leb→le, ltb, lt→ltb}
+use lib.Dec.{ltb, lt→ltb}
 use lib.Arith.{le→nltb}
-use Rattle.laws.proofs.Test.{and-left, and-right}
 use Rattle.laws.proofs.Cases.{zero-case, suc-case, true-case, false-case}
 use Rattle.table.specs.declared.Table.{Table}
 use Rattle.table.specs.declared.Refusal.{Refusal}
-use Rattle.table.specs.Rules.{refusal, fine, refuse, foundIf, within, judged}
-use Rattle.writer.specs.declared.WriteAnswer.{WriteAnswer}
+use Rattle.table.specs.Rules.{refusal, fine, judged}
 use Rattle.format.specs.Format.{recordOf, recordLength}
+use Rattle.writer.specs.declared.WriteAnswer.{WriteAnswer}
 use Rattle.writer.specs.Writing.{writeRefusal, writeOf, written}
-
--- ---- a table that the judge accepts has counts in their limits
-
-holds-first : (b : Bool) (n : ℕ) (next : Refusal) → refuse (suc n) (λ v. 0) (foundIf (not b)) next .number ≡ 0 → T b
-holds-first true n next e = tt
-holds-first false n next e = absurd (omega arith)
-
-pub judged-counts : (t : Table) → judged t .number ≡ 0 → (t .locations ≤ 128) × (t .tasks ≤ 32)
-unfolding judged
-judged-counts t e =
-    let locations = within 1 128 (t .locations) in
-    let tasks = leb (t .tasks) 32 in
-    let counts = holds-first (locations && tasks) 2 _ e in
-    let few = and-right (leb 1 (t .locations)) (leb (t .locations) 128) (and-left locations tasks counts) in
-    (leb→le _ _ few, leb→le _ _ (and-right locations tasks counts))
-
--- ---- the three cases
 
 -- What stands beside a refusal.
 abbrev refused : Refusal → WriteAnswer

@@ -8,8 +8,8 @@ use lib.Dec.{ltb}
 use Rattle.table.specs.declared.Table.{Table}
 use Rattle.table.specs.declared.Refusal.{Refusal}
 use Rattle.table.specs.Rules.{refusal, fine, judged}
-use Rattle.writer.specs.declared.WriteAnswer.{WriteAnswer}
 use Rattle.format.specs.Format.{recordOf, recordLength}
+use Rattle.writer.specs.declared.WriteAnswer.{WriteAnswer}
 
 -- The refusal of writing t into so many bytes.
 unfoldable pub writeRefusal : Table → ℕ → Refusal

@@ -2,8 +2,7 @@
 use mathlib.Core.Path.{_≡_, sym, _∙_}
 use Prim.Native.Nat.{_-_, _≤_}
 use native.Mathlib.Omega.{arith}
-use Rattle.jobs.specs.Entries.{jobIn, row}
-use Rattle.jobs.specs.Entries.{chosenBy, aged}
+use Rattle.jobs.specs.Entries.{jobIn, row, chosenBy, aged}
 use Rattle.jobs.proofs.Rows.{row-none, row-next}
 use borrow.Author.Needs.{needs}
 use Rattle.jobs.proofs.age.Statement.{statement}

@@ -11,8 +11,9 @@ use Rattle.table.specs.declared.Refusal.{Refusal}
 use Rattle.table.specs.declared.Table.{Table}
 use Rattle.table.specs.Columns.{judgedTree}
 use Rattle.table.specs.Rules.{breaksCount, breaksHeader, breaksValue, breaksTask, refuse, fine, foundIf, lowestLocation, lowestTask, locationPlace, taskPlace, judged}
+use Rattle.table.proofs.Unbroken.{refuse-nobody}
 use Rattle.judge.proofs.Agree.{count-kept}
-use Rattle.judge.proofs.Lowest.{refused, passed, hands-on, if-refused, if-kept, tree-refused, tree-kept}
+use Rattle.judge.proofs.Lowest.{refused, passed, if-refused, if-kept, tree-refused, tree-kept}
 use Rattle.judge.proofs.judge.Statement.{statement}
 use Rattle.judge.proofs.judge.Tie as tie
 
@@ -64,7 +65,7 @@ module _ (c : tie.Else3) where
 
   after-value : judgedTree the-table (from-task the-table) ≡ judged the-table
   after-value =
-      sym (hands-on 4 locationPlace (lowestLocation the-table breaksValue) (judgedTree the-table (from-task the-table)) value-kept)
+      sym (refuse-nobody 4 locationPlace (lowestLocation the-table breaksValue) (judgedTree the-table (from-task the-table)) value-kept)
       ∙ after-header headed
 
 -- ---- the needs

@@ -5,8 +5,8 @@ use Prim.Native.Nat.{ℕ, _+_, _-_, _<_, _≤_}
 use native.Mathlib.Omega.{arith}
 use lib.ListN.{length, take, drop}
 use borrow.Author.Needs.{needs}
-use Rattle.record.specs.declared.ReadAnswer.{ReadAnswer}
 use Rattle.format.specs.Format.{recordLength, fieldCount, payloadOffset, payloadLength}
+use Rattle.record.specs.declared.ReadAnswer.{ReadAnswer}
 use Rattle.record.specs.Reading.{readOf}
 use Rattle.record.proofs.Length.{answer-length}
 use Rattle.record.proofs.Question.{part-unread, part-past, part-payload}

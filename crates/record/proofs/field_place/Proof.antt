@@ -5,8 +5,8 @@ use native.Mathlib.Omega.{arith}
 use Prim.Native.Nat.{_<_}
 use lib.ListN.{length}
 use borrow.Author.Needs.{needs}
-use Rattle.record.specs.declared.ReadAnswer.{ReadAnswer}
 use Rattle.format.specs.Format.{recordLength, fieldCount, payloadOffset, payloadLength}
+use Rattle.record.specs.declared.ReadAnswer.{ReadAnswer}
 use Rattle.record.specs.Reading.{readOf}
 use Rattle.record.proofs.Length.{answer-length}
 use Rattle.record.proofs.Question.{asked-unread, asked-past, asked-given, part-unread, part-past, part-payload}

@@ -6,8 +6,9 @@ use native.Mathlib.Omega.{arith}
 use lib.ListN.{length}
 use borrow.Author.Needs.{needs}
 use Rattle.table.specs.Rules.{judged}
+use Rattle.table.proofs.WellFormed.{judged-counts}
 use Rattle.format.specs.Format.{recordLength}
-use Rattle.writer.proofs.Written.{judged-counts, judge-refuses, room-refuses, write-fits}
+use Rattle.writer.proofs.Written.{judge-refuses, room-refuses, write-fits}
 use Rattle.writer.proofs.write.Statement.{statement}
 use Rattle.writer.proofs.write.Tie as tie
 

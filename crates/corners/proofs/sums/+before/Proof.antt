@@ -11,11 +11,11 @@ use borrow.Author.Needs.{needs}
 use Prim.Native.Nat.{ℕ, _+_, _<_}
 use borrow.Fn.Kinds.{In}
 use borrow.Fn.PlainCycle.{Measures, is, falls, and}
+use Rattle.table.proofs.paths.number.Reads as number-reads
+use Rattle.table.proofs.paths.wide.Reads as wide-reads
 use Rattle.corners.proofs.sums.before.Reads as before
 use Rattle.corners.proofs.sums.before.Kinds as before-kinds
 use Rattle.corners.proofs.sums.+before.Lts-before as before-lts
-use Rattle.table.proofs.paths.number.Reads as number-reads
-use Rattle.table.proofs.paths.wide.Reads as wide-reads
 use Rattle.corners.proofs.sums.+before.{statement}
 use Rattle.corners.proofs.sums.+before.Tie.{close}
 

@@ -3,8 +3,8 @@ use mathlib.Core.Path.{_≡_}
 use Prim.Native.Nat.{_-_, _≤_}
 use native.Mathlib.Omega.{arith}
 use Rattle.slice.specs.Changes.{Lowers, Until}
-use Rattle.filling.specs.Sets.{Across}
 use Rattle.slice.proofs.Lowering.{lowers-either, lowers-on, lowers-off, until-none, until-more}
+use Rattle.filling.specs.Sets.{Across}
 use borrow.Author.Needs.{needs}
 use Rattle.filling.proofs.walks.across.Statement.{statement}
 use Rattle.filling.proofs.walks.across.Tie as tie

@@ -3,8 +3,8 @@ use mathlib.Core.Path.{_≡_}
 use Prim.Native.Nat.{_-_, _≤_}
 use native.Mathlib.Omega.{arith}
 use Rattle.slice.specs.Changes.{Lowers, Until}
-use Rattle.filling.specs.Sets.{Onward}
 use Rattle.slice.proofs.Lowering.{until-none, until-more}
+use Rattle.filling.specs.Sets.{Onward}
 use borrow.Author.Needs.{needs}
 use Rattle.filling.proofs.walks.onward.Statement.{statement}
 use Rattle.filling.proofs.walks.onward.Tie as tie

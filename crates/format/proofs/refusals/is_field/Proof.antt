@@ -2,8 +2,8 @@
 use mathlib.Core.Path.{ap, _∙_}
 use borrow.Author.Tests.{eq-eqb, ne-eqb}
 use borrow.Author.Needs.{needs}
-use Rattle.format.specs.Format.{number16}
 use Rattle.laws.proofs.Parts.{rest}
+use Rattle.format.specs.Format.{number16}
 use Rattle.format.proofs.refusals.is_field.Statement.{statement}
 use Rattle.format.proofs.refusals.is_field.Tie as tie
 

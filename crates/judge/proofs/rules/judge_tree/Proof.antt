@@ -15,8 +15,9 @@ use Rattle.table.specs.declared.Table.{Table}
 use Rattle.table.specs.Columns.{entry, guardsOver, gapIn, overlapIn}
 use Rattle.table.specs.Rules.{breaksShape, breaksGap, breaksOverlap, breaksPeriod, refuse, fine, lowestLocation, locationPlace}
 use Rattle.table.proofs.Ranged.{ranged}
+use Rattle.table.proofs.Unbroken.{refuse-nobody}
 use Rattle.judge.proofs.Agree.{gap-agrees, overlap-agrees, period-agrees, some-value, falls}
-use Rattle.judge.proofs.Lowest.{refused, passed, hands-on}
+use Rattle.judge.proofs.Lowest.{refused, passed}
 use Rattle.judge.proofs.rules.judge_tree.Statement.{statement}
 use Rattle.judge.proofs.rules.judge_tree.Tie as tie
 
@@ -50,7 +51,7 @@ module _ (c : tie.Else1) where
   shape-kept = passed 5 locationPlace _ (lowestLocation table breaksShape) (omega arith) (c .before .before .judge-shape .ensures) (c .if1 .left)
 
   after-shape : from-gap table ≡ from-shape table
-  after-shape = sym (hands-on 5 locationPlace (lowestLocation table breaksShape) (from-gap table) shape-kept)
+  after-shape = sym (refuse-nobody 5 locationPlace (lowestLocation table breaksShape) (from-gap table) shape-kept)
 
   falling : Falls (entry parents) (table .locations)
   falling =
@@ -91,7 +92,7 @@ module _ (c : tie.Else2) where
 
   after-gap : from-overlap (the-table columns) ≡ from-shape (the-table columns)
   after-gap =
-      sym (hands-on 6 locationPlace (lowestLocation (the-table columns) breaksGap) (from-overlap (the-table columns)) (sym (gaps columns) ∙ gap-kept))
+      sym (refuse-nobody 6 locationPlace (lowestLocation (the-table columns) breaksGap) (from-overlap (the-table columns)) (sym (gaps columns) ∙ gap-kept))
       ∙ after-shape (shaped columns)
 
 -- ---- OVERLAP is kept
@@ -110,7 +111,7 @@ module _ (c : tie.Else3) where
 
   after-overlap : from-period (the-table full) ≡ from-shape (the-table full)
   after-overlap =
-      sym (hands-on 7 locationPlace (lowestLocation (the-table full) breaksOverlap) (from-period (the-table full)) overlap-kept)
+      sym (refuse-nobody 7 locationPlace (lowestLocation (the-table full) breaksOverlap) (from-period (the-table full)) overlap-kept)
       ∙ after-gap without-gap
 
 -- ---- the needs

@@ -9,13 +9,13 @@ use native.Mathlib.Omega.{arith}
 use lib.Dec.{T}
 use lib.ListN.{length, drop, length-drop}
 use borrow.Author.Needs.{needs}
+use Rattle.laws.proofs.Parts.{rest}
+use Rattle.laws.proofs.Cases.{of-true, of-false}
 use Rattle.table.specs.declared.Table.{Table}
 use Rattle.table.specs.Rules.{refusal}
 use Rattle.format.specs.Format.{headerOf, locationOf, taskOf, recordLength}
 use Rattle.format.specs.Tests.{left, headerNumber, fieldNumber, isLocation}
 use Rattle.record.specs.Reading.{refused, withLocation, withTask, fieldsFrom, mostFields, fieldsOf}
-use Rattle.laws.proofs.Parts.{rest}
-use Rattle.laws.proofs.Cases.{holds, fails}
 use Rattle.record.proofs.Fields.{header-refused, header-fine, header-met, location-met, task-met, location-read, task-read, field-refused, end-without-location, end-read}
 use Rattle.record.proofs.Length.{front-met}
 use Rattle.record.proofs.front.fields.Statement.{statement}
@@ -57,14 +57,14 @@ whole-front : (c : tie.Else2 Inv-loop μ-loop) → 3 ≤ left (bytes (c .before 
 whole-front c = front-met _ _ _ _ (fine c)
 
 is-location : (c : tie.Then3 Inv-loop μ-loop) → let h = c .before .before .before .before .before in T (isLocation (bytes h) (h .loop .at) (h .loop .table .tasks))
-is-location c = holds _ (sym (c .before .is-location .ensures) ∙ c .if3 .taken)
+is-location c = of-true _ (sym (c .before .is-location .ensures) ∙ c .if3 .taken)
 
 whole-location : (c : tie.Then3 Inv-loop μ-loop)
     → let h = c .before .before .before .before .before in (h .loop .table .locations < 128) × (12 ≤ left (bytes h) (h .loop .at))
 whole-location c = location-met _ _ _ _ (fine (c .before .before)) (is-location c)
 
 is-task : (c : tie.Else3 Inv-loop μ-loop) → let h = c .before .before .before .before .before in T (not (isLocation (bytes h) (h .loop .at) (h .loop .table .tasks)))
-is-task c = fails _ (sym (c .before .is-location .ensures) ∙ c .if3 .left)
+is-task c = of-false _ (sym (c .before .is-location .ensures) ∙ c .if3 .left)
 
 whole-task : (c : tie.Else3 Inv-loop μ-loop)
     → let h = c .before .before .before .before .before in (h .loop .table .tasks < 32) × (10 ≤ left (bytes h) (h .loop .at))

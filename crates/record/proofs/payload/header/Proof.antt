@@ -2,8 +2,8 @@
 -- them. Assumes nothing.
 use mathlib.Core.Path.{ap, _∙_}
 use borrow.Author.Needs.{needs}
-use Rattle.format.specs.Format.{number16}
 use Rattle.laws.proofs.Parts.{rest}
+use Rattle.format.specs.Format.{number16}
 use Rattle.record.proofs.payload.header.Statement.{statement}
 use Rattle.record.proofs.payload.header.Tie as tie
 

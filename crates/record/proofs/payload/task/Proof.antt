@@ -1,8 +1,8 @@
 -- `record::payload::task` meets its contract: each number stands where the definition reads it. Assumes nothing.
 use mathlib.Core.Path.{ap, _∙_}
 use borrow.Author.Needs.{needs}
-use Rattle.format.specs.Format.{number16}
 use Rattle.laws.proofs.Parts.{rest}
+use Rattle.format.specs.Format.{number16}
 use Rattle.record.proofs.payload.task.Statement.{statement}
 use Rattle.record.proofs.payload.task.Tie as tie
 

@@ -2,7 +2,8 @@
 -- Assumes nothing.
 use mathlib.Core.Path.{sym, ap, _∙_}
 use Rattle.table.specs.declared.Refusal.{Refusal}
-use Rattle.runner.proofs.Refusals.{counted, fresh-refused, fresh-given}
+use Rattle.table.proofs.WellFormed.{judged-counts}
+use Rattle.runner.proofs.Refusals.{fresh-refused, fresh-given}
 use borrow.Author.Needs.{needs}
 use Rattle.runner.proofs.State.fresh.Statement.{statement}
 use Rattle.runner.proofs.State.fresh.Tie as tie
@@ -20,7 +21,7 @@ returns c =
     (λ i. record { refusal = e i; state = c .empty .ensures i }) ∙ sym (fresh-refused t (λ z. c .before .if1 .taken (ap (λ (r : Refusal). r .number) e ∙ z)))
 
 fresh-requires : tie.Need-fresh-requires
-fresh-requires c κs = counted (c .before .before .before .args .table) (ap (λ (r : Refusal). r .number) (sym (c .before .before .judge .ensures)) ∙ c .if1 .left) .1
+fresh-requires c κs = judged-counts (c .before .before .before .args .table) (ap (λ (r : Refusal). r .number) (sym (c .before .before .judge .ensures)) ∙ c .if1 .left) .1
 
 returns-2 : tie.Need-returns-2
 returns-2 c =

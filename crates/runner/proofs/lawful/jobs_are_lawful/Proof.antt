@@ -3,10 +3,10 @@ use mathlib.Core.Path.{sym, ap, _∙_}
 use mathlib.Core.Bool.{Bool, not}
 use Prim.Native.Nat.{ℕ, _-_}
 use native.Mathlib.Omega.{arith}
-use Rattle.runner.proofs.Passes.{one-breaks, none-breaks}
 use Rattle.judge.proofs.Lowest.{Kept, kept-none, kept-more}
 use Rattle.jobs.specs.Entries.{jobIn}
 use Rattle.runner.specs.State.{unlawful}
+use Rattle.runner.proofs.Passes.{one-breaks, none-breaks}
 use borrow.Author.Needs.{needs}
 use Rattle.runner.proofs.lawful.jobs_are_lawful.Statement.{statement}
 use Rattle.runner.proofs.lawful.jobs_are_lawful.Tie as tie

@@ -11,8 +11,8 @@ use Rattle.laws.proofs.Test.{and-fails-left, none-all}
 use mathlib.Core.Path.{_≡_, sym, ap, _∙_}
 use Prim.Native.Nat.{ℕ, _-_, _≤_, _<_}
 use native.Mathlib.Omega.{arith}
+use Rattle.laws.proofs.Cases.{is-true, of-false}
 use Rattle.runner.proofs.Passes.{one-breaks}
-use Rattle.table.proofs.Flags.{is-true, of-false}
 use borrow.Author.Needs.{needs}
 use Rattle.runner.proofs.lawful.rest_is_zero.Statement.{statement}
 use Rattle.runner.proofs.lawful.rest_is_zero.Tie as tie

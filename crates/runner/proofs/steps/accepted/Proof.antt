@@ -7,12 +7,11 @@ use Rattle.theory.specs.Job.{isLate, drop}
 use Rattle.theory.specs.Steps.{waits, earliest}
 use Rattle.table.specs.declared.Table.{Table}
 use Rattle.table.specs.Table.{locationAt, tasksOf}
-use Rattle.runner.specs.declared.State.{State}
-use Rattle.jobs.specs.Entries.{jobIn, row}
-use Rattle.runner.specs.State.{jobAt}
-use Rattle.jobs.specs.Entries.{choiceOf, chosenBy, aged}
-use Rattle.runner.specs.Step.{stepped}
+use Rattle.jobs.specs.Entries.{jobIn, row, choiceOf, chosenBy, aged}
 use Rattle.jobs.proofs.Service.{choice-small}
+use Rattle.runner.specs.declared.State.{State}
+use Rattle.runner.specs.State.{jobAt}
+use Rattle.runner.specs.Step.{stepped}
 use Rattle.runner.proofs.Rounds.{waiting, chosen, chosen-as, late, late-as, jobs-as}
 use borrow.Author.Needs.{needs}
 use Rattle.runner.proofs.steps.accepted.Statement.{statement}

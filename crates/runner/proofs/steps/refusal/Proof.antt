@@ -3,10 +3,11 @@ use mathlib.Core.Path.{_≡_, sym, ap, _∙_}
 use mathlib.Core.Bool.{not}
 use Rattle.table.specs.declared.Refusal.{Refusal}
 use Rattle.table.specs.Rules.{refuse, fine, judged}
+use Rattle.table.proofs.WellFormed.{judged-counts}
 use Rattle.judge.proofs.Lowest.{if-refused, if-kept}
 use Rattle.runner.specs.State.{jobAt, isLawful}
 use Rattle.runner.specs.Step.{earlyTask}
-use Rattle.runner.proofs.Refusals.{counted, table-refuses, table-passes}
+use Rattle.runner.proofs.Refusals.{table-refuses, table-passes}
 use borrow.Author.Needs.{needs}
 use Rattle.runner.proofs.steps.refusal.Statement.{statement}
 use Rattle.runner.proofs.steps.refusal.Tie as tie
@@ -23,7 +24,7 @@ returns c =
     c .before .before .judge .ensures ∙ sym (table-refuses (a .table) (a .state) (a .set) (λ e. c .if1 .taken (number-is (c .before .before) ∙ e)))
 
 is-lawful-requires : tie.Need-is-lawful-requires
-is-lawful-requires c κs = counted (c .before .before .before .args .table) (sym (number-is (c .before .before)) ∙ c .if1 .left)
+is-lawful-requires c κs = judged-counts (c .before .before .before .args .table) (sym (number-is (c .before .before)) ∙ c .if1 .left)
 
 returns-2 : tie.Need-returns-2
 returns-2 c =

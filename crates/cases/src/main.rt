@@ -9,12 +9,12 @@ use table::Refusal;
 use table::Table;
 use words::text;
 
-mod answers;
-mod numbers;
-mod records;
-mod refusals;
-mod runs;
-mod supplies;
+mod answers; // answers.rt: ticks, refusals and verdicts as words
+mod numbers; // numbers.rt: the numbers of the data
+mod records; // records.rt: reading, writing and fields
+mod refusals; // refusals.rt: every question about a table that is not well formed
+mod runs; // runs.rt: steps of the runner
+mod supplies; // supplies.rt: cycles and fillings
 
 // The bytes of a question before its name.
 const HEAD: usize = 14;

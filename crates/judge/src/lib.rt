@@ -4,7 +4,7 @@ ghost use Rattle.table.specs.Rules.{judged};
 use table::Refusal;
 use table::Table;
 
-mod rules;
+mod rules; // rules.rt: each rule, and the lowest place that breaks it
 
 // The refusal with the lowest number that applies, at its lowest place; NONE for a well-formed table.
 pub fn judge(table: Table) -> Refusal

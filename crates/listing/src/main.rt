@@ -7,7 +7,7 @@ use table::paths;
 use words::number;
 use words::text;
 
-mod rows;
+mod rows; // rows.rt: the numbers of a line
 
 // Beyond the horizon there is no verdict, and the line says so.
 fn last_word(answer: VerdictAnswer) {

@@ -6,9 +6,9 @@ use job::Job;
 use table::Refusal;
 use table::Table;
 
-mod lawful;
-mod places;
-mod steps;
+mod lawful; // lawful.rt: states that may stand, releases that come early
+mod places; // places.rt: where the next tick is
+mod steps; // steps.rt: a step refused, a step accepted
 
 // A location, how many of its ticks are done, and one job for each task; the entries past the tasks are 0.
 #[repr(C)]

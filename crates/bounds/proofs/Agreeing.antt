@@ -1,21 +1,15 @@
--- A table's columns mean the table's tree, with flags for its queues: the bounds are the same; and two periods of them tell all others.
--- Assumes nothing.
+-- A table's columns mean the table's tree, with flags for its queues: the bounds are the same. Assumes nothing.
 use mathlib.Core.Path.{_≡_, refl, sym, ap, subst, _∙_}
 use mathlib.Core.Bool.{Bool, true, false, not}
 use mathlib.Core.List.{List}
-use Prim.Native.Nat.{ℕ, _+_, _-_, _*_, _/_, _%_, _≤_, _<_}
-use native.Mathlib.Nat.{mod-lt}
+use Prim.Native.Nat.{ℕ, _-_, _*_, _≤_}
 use native.Mathlib.Omega.{arith}
 use lib.ListN.{getD}
-use Rattle.laws.specs.Test.{bit, any}
+use Rattle.laws.specs.Test.{bit}
 use Rattle.laws.proofs.Test.{neqb-of, bit-no}
-use Rattle.laws.proofs.Minimum.{minimum-default}
-use Rattle.theory.specs.Grants.{count, is, others}
-use Rattle.theory.specs.Tree.{Tree, isLeaf, Formed}
-use Rattle.theory.specs.Cycles.{system, cycleLeast, from, leastOf}
-use Rattle.theory.proofs.Paths.{some-tick}
-use Rattle.theory.proofs.Cycles.{least-far}
-use Rattle.theory.proofs.Runs.{sound}
+use Rattle.theory.specs.Grants.{is, others}
+use Rattle.theory.specs.Tree.{Tree, Formed}
+use Rattle.theory.specs.Cycles.{system, cycleLeast, leastOf}
 use Rattle.table.specs.declared.Location.{Location}
 use Rattle.table.specs.declared.Table.{Table}
 use Rattle.table.specs.Table.{locationAt, treeOf}
@@ -82,21 +76,3 @@ module _ (t : Table) (q : ℕ) (some : 1 ≤ q) where
 
     pub cycle-table : (pass : ℕ) → cycleLeast (system (lentTree parents ticks flags (t .locations) period)) (is pass) ≡ cycleLeast (system (treeOf t)) (asks pass q)
     cycle-table pass = ap (λ s. cycleLeast (system s) (is pass)) lent-is
-
--- ---- windows past two periods
-
-module _ (t : Tree) (formed : Formed t) (p : ℕ → Bool) where
-  pub least-small : (w : ℕ) → leastOf (system t) p w ≤ w
-  least-small w = minimum-default any (λ s. from (system t) p s w) w (t .period)
-
-  pub cycle-small : cycleLeast (system t) p ≤ t .period
-  cycle-small = minimum-default (isLeaf t) (λ v. count p (system t .queue v) 0 (t .period)) (t .period) (t .size)
-
-  -- what is read and multiplied stays in its range
-  pub far : (w : ℕ) → t .period ≤ w
-      → let more = w - t .period in
-      let k = more / t .period * cycleLeast (system t) p in
-      (leastOf (system t) p w ≡ leastOf (system t) p (t .period + more % t .period) + k) × (k ≤ w) × (t .period + more % t .period < 2 * t .period)
-  far w h =
-      let e = least-far (system t) (sound t formed) p w h in
-      (e, omega (arith, e, least-small w), omega (arith, mod-lt (w - t .period) (some-tick t formed)))

@@ -5,7 +5,6 @@ mod flags; // flags.rt: which locations are the queue's
 pub mod questions; // questions.rt: the bounds of a well-formed table
 pub mod refusals; // refusals.rt: which question is refused
 
-use slice::numbers;
 use table::Refusal;
 use table::Table;
 

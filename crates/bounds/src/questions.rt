@@ -8,13 +8,9 @@ ghost use Rattle.table.specs.Rules.{WellFormed};
 ghost use Rattle.slice.specs.Changes.{Becomes};
 ghost use Rattle.bounds.specs.Flagged.{asks};
 use crate::flags;
-use slice::numbers;
 use table::Table;
 use table::columns;
 use table::paths;
-
-// Two periods of a table that is as long as may be.
-const ENTRIES: usize = 2048;
 
 pub fn span(period: u16) -> usize
     ensures { λ r. ⌜ (r ≡ period) × (r < 65536) ⌝ }
@@ -60,18 +56,12 @@ pub fn cycle(table: Table, queue: usize, pass: u8) -> u32
     )
 }
 
-// The least of one window: past two periods, each period more adds the least of a cycle.
+// The least of one window.
 pub fn bound(table: Table, queue: usize, pass: u8, window: u32) -> u32
     requires { ⌜ WellFormed table × (1 ≤ queue) × (window ≤ 2000000) ⌝ }
     ensures { λ r. ⌜ r ≡ leastOf (system (treeOf table)) (asks pass queue) window ⌝ }
 {
-    let mut out = [0u32; ENTRIES];
+    let mut out = [0u32; supply::FILLING];
     leasts(table, queue, pass, &mut out);
-    let period = paths::wide(table.period);
-    if window < 2 * period {
-        return out[numbers::long(window)];
-    }
-    let more = window - period;
-    let near = numbers::long(period + more % period);
-    out[near] + more / period * cycle(table, queue, pass)
+    supply::at(&out, table.period, cycle(table, queue, pass), window)
 }

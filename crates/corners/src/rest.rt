@@ -8,7 +8,6 @@ ghost use Rattle.theory.specs.Points.{rest};
 ghost use Rattle.slice.specs.Changes.{Entries};
 ghost use Rattle.corners.specs.Lent.{Lent, lentTree};
 use crate::sums;
-use slice::numbers;
 use table::Table;
 use table::paths;
 

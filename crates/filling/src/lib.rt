@@ -9,7 +9,6 @@ ghost use Rattle.corners.specs.Lent.{Lent, lentTree};
 use corners::marks;
 use corners::rest;
 use corners::sums;
-use slice::numbers;
 use slice::passes;
 use table::Table;
 

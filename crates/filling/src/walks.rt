@@ -7,7 +7,6 @@ ghost use Rattle.table.specs.Columns.{entry};
 ghost use Rattle.slice.specs.Changes.{Lowers, Until};
 ghost use Rattle.corners.specs.Lent.{Precedes, Rises, Below};
 ghost use Rattle.filling.specs.Sets.{Upward, Inner, Onward, Across, Corners};
-use slice::numbers;
 use slice::points;
 use table::Table;
 use table::paths;

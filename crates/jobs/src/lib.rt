@@ -1,9 +1,7 @@
 // The jobs of a state: the step rules over those of all tasks, each a pass of its own (docs/RULES.md, The runner).
 ghost use mathlib.Core.Path.{_≡_};
-ghost use mathlib.Core.Bool.{not, _&&_, _||_};
 ghost use Prim.Native.Nat.{_≤_, _<_};
 ghost use lib.ListN.{replicate};
-ghost use lib.Dec.{eqb, ltb};
 ghost use Rattle.laws.specs.Bits.{inSet, setOf};
 ghost use Rattle.theory.specs.Steps.{names, released, earliest};
 ghost use Rattle.theory.specs.Job.{fresh, isLate, drop};

@@ -14,9 +14,10 @@ use Rattle.theory.proofs.Guards.{SomeValue}
 use Rattle.table.specs.declared.Table.{Table}
 use Rattle.table.specs.Table.{locationAt, treeOf}
 use Rattle.table.specs.Ranged.{Ranged}
-use Rattle.table.specs.Columns.{parentColumn, ticksColumn, lowColumn, highColumn, entry, zeros, treeOver, leafOver, guardsOver, gapIn, overlapIn, missesPeriod}
+use Rattle.table.specs.Columns.{parentColumn, ticksColumn, lowColumn, highColumn, entry, zeros, treeOver, leafOver, missesPeriod}
 use Rattle.table.specs.Rules.{within, isPlaced, breaksCount, breaksValue, breaksShape, breaksGap, breaksOverlap, breaksPeriod, lowestLocation}
 use Rattle.table.proofs.Copied.{column-entry}
+use Rattle.guards.specs.Children.{guardsOver, gapIn, overlapIn}
 use Rattle.judge.proofs.Placed.{placed-child}
 
 module _ (t : Table) where

@@ -6,14 +6,14 @@ ghost use lib.Dec.{T, eqb, leb};
 ghost use Rattle.laws.specs.Found.{first};
 ghost use Rattle.laws.proofs.Climb.{Falls};
 ghost use Rattle.theory.proofs.Guards.{SomeValue};
-ghost use Rattle.table.specs.Columns.{entry, parentColumn, leafOver, guardsOver, gapIn, overlapIn, missesPeriod, judgedTree};
+ghost use Rattle.table.specs.Columns.{entry, parentColumn, leafOver, missesPeriod, judgedTree};
 ghost use Rattle.table.specs.Rules.{within, isPlaced, breaksCount, breaksHeader, breaksValue, breaksShape, breaksTask, refuse, fine, lowestLocation, lowestTask, locationPlace, taskPlace};
+ghost use Rattle.guards.specs.Children.{guardsOver, gapIn, overlapIn};
 use table::Location;
 use table::Refusal;
 use table::Table;
 use table::Task;
 use table::columns;
-use table::guards;
 use table::paths;
 
 pub fn breaks_count(table: Table) -> bool

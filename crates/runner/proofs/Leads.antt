@@ -10,8 +10,9 @@ use Rattle.theory.specs.Guards.{holds, orRoot, onto}
 use Rattle.table.specs.declared.Location.{Location}
 use Rattle.table.specs.declared.Table.{Table}
 use Rattle.table.specs.Table.{treeOf}
-use Rattle.table.specs.Columns.{parentColumn, lowColumn, highColumn, treeOver, zeros, guardsOver}
+use Rattle.table.specs.Columns.{parentColumn, lowColumn, highColumn, treeOver, zeros}
 use Rattle.table.proofs.Copied.{column-entry}
+use Rattle.guards.specs.Children.{guardsOver}
 
 pub columns-lead : (t : Table) (v x : ℕ) → onto (guardsOver (parentColumn t) (lowColumn t) (highColumn t) (t .locations)) v x ≡ onto (treeOf t) v x
 columns-lead t v x = λ i.

@@ -8,7 +8,6 @@ ghost use Rattle.runner.specs.Step.{valueAt, placeOf};
 use crate::State;
 use table::Table;
 use table::columns;
-use table::guards;
 use table::paths;
 
 // A location, and how many of its ticks are done.

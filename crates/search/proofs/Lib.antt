@@ -1,5 +1,3 @@
 -- The laws behind the search, in reading order.
 pub mod Answers
-pub mod Supply
 pub mod Swept
-pub mod LongestWait

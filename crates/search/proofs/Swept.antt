@@ -24,10 +24,10 @@ use Rattle.table.specs.declared.Table.{Table}
 use Rattle.table.specs.Table.{treeOf, tasksOf}
 use Rattle.table.specs.Rules.{WellFormed}
 use Rattle.table.specs.Columns.{entry}
+use Rattle.supply.proofs.Supply.{least, least-is, least-said, least-rises}
 use Rattle.demand.specs.Ahead.{far, ahead, LaidOut, entered, Advances}
 use Rattle.demand.proofs.NextDeadlines.{demandOf-le, ahead-none}
 use Rattle.demand.proofs.Blocks.{entered-zeros, entered-at, entered-all}
-use Rattle.search.proofs.Supply.{least, least-is, least-said, least-rises}
 
 -- every window before `next` is passed, and `next` is no later than any deadline to come
 pub record Swept (t : Table) (q : ℕ) (gaps works : List ℕ) (n : ℕ) (dues : List ℕ) (demanded next : ℕ) : Type 0 where

@@ -1,3 +1,2 @@
--- What the verdict answers, and the supply that it is taken from.
+-- What the verdict answers.
 pub mod Answers
-pub mod Supply

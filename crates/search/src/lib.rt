@@ -1,10 +1,9 @@
-// From the filling to the answer: the shortest window that is short, and the wait (docs/RULES.md, Demand, verdict and wait).
+// From the filling to the verdict: the shortest window that is short (docs/RULES.md, Demand, verdict and wait).
 ghost use mathlib.Core.Path.{_≡_};
 ghost use Rattle.search.specs.Answers.{refusedAnswer, meetsAnswer, shortAnswer};
 use table::Refusal;
 
 pub mod verdicts; // verdicts.rt: the shortest short window
-pub mod waits; // waits.rt: the smallest window that reaches
 
 // MEETS, or the shortest window in which demand exceeds the least supply. Zeros beside a refusal and beside MEETS.
 #[repr(C)]
@@ -17,9 +16,6 @@ pub struct VerdictAnswer {
 }
 
 impl VerdictAnswer {
-    // Room for the filling of the longest period.
-    pub const FILLING: usize = 2048;
-
     pub fn refused(refusal: Refusal) -> VerdictAnswer
         ensures { λ r. ⌜ r ≡ refusedAnswer refusal ⌝ }
     {

@@ -1,32 +1,14 @@
 // The search for the shortest window in which demand exceeds the least supply, block by block from deadline to deadline.
 ghost use mathlib.Core.Path.{_≡_};
-ghost use Prim.Native.Nat.{ℕ, _*_, _<_, _≤_};
+ghost use Prim.Native.Nat.{_≤_};
 ghost use Rattle.theory.specs.Search.{lcmOf};
 ghost use Rattle.table.specs.Table.{tasksOf};
 ghost use Rattle.table.specs.Rules.{WellFormed, fine};
-ghost use Rattle.table.specs.Columns.{entry};
+ghost use Rattle.supply.specs.Supply.{Supplied};
 ghost use Rattle.search.specs.Answers.{Verdict};
-ghost use Rattle.search.specs.Supply.{Supplied, supplyAt};
 use crate::VerdictAnswer;
 use demand::deadlines;
 use table::Table;
-use table::paths;
-
-// The least supply of a window: from the filling, and past 2P by the law of the period.
-fn supply(filled: &[u32; VerdictAnswer::FILLING], period: u16, cycle: u32, window: u32) -> u32
-    requires { ⌜ (1 ≤ period) × (period ≤ 1024) × (cycle ≤ 1024) × (window ≤ 1000063) ⌝ }
-    requires { ⌜ ((w : ℕ) → w < 2 * period → entry (now filled) w ≤ 2048) ⌝ }
-    ensures { λ r. ⌜ r ≡ supplyAt (now (filled .entry)) period cycle window ⌝ }
-{
-    let turn = paths::wide(period);
-    if window < 2 * turn {
-        let near = window as usize;
-        return filled[near];
-    }
-    let past = window - turn;
-    let at = (turn + past % turn) as usize;
-    filled[at] + past / turn * cycle
-}
 
 // The verdict, from the filling, the cycle least and the multiple. Demand moves at deadlines only, and least never falls:
 // the shortest short window is a deadline, and one past the multiple has a shorter one before it. So the next block begins
@@ -34,7 +16,7 @@ fn supply(filled: &[u32; VerdictAnswer::FILLING], period: u16, cycle: u32, windo
 pub fn decide(
     table: Table,
     queue: u32,
-    filled: &[u32; VerdictAnswer::FILLING],
+    filled: &[u32; supply::FILLING],
     cycle: u32,
     multiple: u32,
 ) -> VerdictAnswer
@@ -59,7 +41,7 @@ pub fn decide(
             demand += work;
             if work != 0 {
                 let window = start + i as u32;
-                let supply = supply(filled, table.period, cycle, window);
+                let supply = supply::at(filled, table.period, cycle, window);
                 if supply < demand {
                     return VerdictAnswer::short(window, demand, supply);
                 }

@@ -1,4 +1,3 @@
 // What the filling does to a lent slice of numbers.
-pub mod numbers; // numbers.rt: small steps on numbers
 pub mod passes; // passes.rt: from one end to the other
 pub mod points; // points.rt: entries that are lowered

@@ -4,7 +4,6 @@ ghost use lib.ListN.{length};
 ghost use Rattle.theory.specs.Filling.{down, up, filling};
 ghost use Rattle.table.specs.Columns.{entry};
 ghost use Rattle.slice.specs.Changes.{Becomes};
-use crate::numbers;
 
 // No window has more ticks that pass than ticks.
 pub fn ramp(out: &mut [u32], last: usize)

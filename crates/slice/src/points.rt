@@ -2,7 +2,6 @@
 ghost use Prim.Native.Nat.{_+_, _<_, _≤_};
 ghost use lib.ListN.{length};
 ghost use Rattle.slice.specs.Changes.{Lowers, Marked, Until, Longer};
-use crate::numbers;
 
 // A point that is longer than the slice lowers the last entry.
 pub fn lower(out: &mut [u32], last: usize, mark: u8, n: usize, m: usize)

@@ -4,7 +4,6 @@ pub mod Flags
 pub mod Copied
 pub mod Leaves
 pub mod Ends
-pub mod Held
 -- The judge answers 0 exactly where the table is well formed, and by what counts alone.
 pub mod Unbroken
 pub mod Sentences

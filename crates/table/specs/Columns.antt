@@ -1,13 +1,10 @@
 -- One list for each field that the judge reads along the tree, and what the rules say of such lists.
 use mathlib.Core.Bool.{Bool, not, _&&_}
 use mathlib.Core.List.{List, map}
-use Prim.Native.Nat.{ℕ, suc}
+use Prim.Native.Nat.{ℕ}
 use lib.ListN.{getD}
 use lib.Dec.{eqb}
-use Rattle.laws.specs.Test.{none}
-use Rattle.theory.specs.Tree.{Tree, isChild, isLeaf, end}
-use Rattle.theory.specs.Guards.{top, holds}
-use Rattle.theory.specs.Sweep.{widths}
+use Rattle.theory.specs.Tree.{Tree, isLeaf, end}
 use Rattle.table.specs.declared.Location.{Location}
 use Rattle.table.specs.declared.Table.{Table}
 use Rattle.table.specs.declared.Refusal.{Refusal}
@@ -60,25 +57,6 @@ endOver parents ticks v = end (treeOver 0 (entry parents) (entry ticks) zeros ze
 -- Location v is a leaf, and the ticks on its path do not sum to the period.
 abbrev pub missesPeriod : List ℕ → List ℕ → ℕ → ℕ → ℕ → Bool
 missesPeriod parents ticks n period v = leafOver parents n v && not (eqb (endOver parents ticks v) period)
-
--- Value x is in the guard of v's child u.
-abbrev pub leadsIn : Tree → ℕ → ℕ → ℕ → Bool
-leadsIn t v x u = isChild t v u && holds t x u
-
--- Location v has children, and some value is in no child's guard.
-abbrev pub gapIn : Tree → ℕ → Bool
-gapIn t v = not (isLeaf t v) && not (none (λ x. none (leadsIn t v x) (t .size)) (suc top))
-
--- Some value is in the guards of two children of v.
-abbrev pub overlapIn : Tree → ℕ → Bool
-overlapIn t v = not (none (λ x. not (none (λ u. leadsIn t v x u && not (none (leadsIn t v x) u)) (t .size))) (suc top))
-
-abbrev pub guardsOver : List ℕ → List ℕ → List ℕ → ℕ → Tree
-guardsOver parents lows highs n = treeOver n (entry parents) zeros (entry lows) (entry highs)
-
--- How many values the guards of v's children below m hold, each counted for every child that holds it.
-abbrev pub widthsIn : Tree → ℕ → ℕ → ℕ
-widthsIn t v m = widths (isChild t v) (t .low) (t .high) m
 
 -- ---- the rules of the tree, one after the other
 

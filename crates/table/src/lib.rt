@@ -4,7 +4,6 @@ ghost use Rattle.table.specs.Table.{emptyTable};
 ghost use Rattle.table.specs.Rules.{fine};
 
 pub mod columns; // columns.rt: one field of every location
-pub mod guards; // guards.rt: which child a value leads to, gaps and overlaps
 pub mod paths; // paths.rt: leaves, and the ticks along a path
 
 #[repr(C)]

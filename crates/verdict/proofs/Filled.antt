@@ -11,11 +11,11 @@ use Rattle.table.specs.declared.Table.{Table}
 use Rattle.table.specs.declared.Refusal.{Refusal}
 use Rattle.table.specs.Table.{treeOf}
 use Rattle.table.specs.Ranged.{Ranged}
+use Rattle.supply.specs.Supply.{Supplied}
 use Rattle.bounds.specs.Questions.{queueRefusal, fillRefusal, Fills}
 use Rattle.bounds.specs.Flagged.{asks}
 use Rattle.bounds.proofs.Refused.{Passes, Asked, queue-asked}
 use Rattle.bounds.proofs.Answered.{cycle-least-says}
-use Rattle.search.specs.Supply.{Supplied}
 use Rattle.verdict.proofs.InOrder.{fill-asked}
 
 -- what is known once the slice is filled, or not

@@ -8,7 +8,6 @@ use bounds::refusals;
 use demand::due;
 use search::VerdictAnswer;
 use search::verdicts;
-use search::waits;
 use table::Refusal;
 use table::Table;
 
@@ -48,7 +47,7 @@ pub fn demand(table: Table, queue: u32, window: u32) -> TicksAnswer
 pub fn verdict(table: Table, queue: u32) -> VerdictAnswer
     ensures { λ r. ⌜ VerdictAnswers table queue r ⌝ }
 {
-    let mut filled = [0u32; VerdictAnswer::FILLING];
+    let mut filled = [0u32; supply::FILLING];
     let refusal = bounds::fill(table, queue, &mut filled);
     if refusal.number != Refusal::NONE {
         return VerdictAnswer::refused(refusal);
@@ -65,7 +64,7 @@ pub fn verdict(table: Table, queue: u32) -> VerdictAnswer
 pub fn wait(table: Table, queue: u32, ticks: u32) -> TicksAnswer
     ensures { λ r. ⌜ WaitAnswer table queue ticks r ⌝ }
 {
-    let mut filled = [0u32; VerdictAnswer::FILLING];
+    let mut filled = [0u32; supply::FILLING];
     let refusal = bounds::fill(table, queue, &mut filled);
     if refusal.number != Refusal::NONE {
         return told(refusal, 0);

@@ -2,8 +2,9 @@
 use mathlib.Core.Path.{_∙_}
 use native.Mathlib.Omega.{arith}
 use Rattle.table.specs.Table.{treeOf}
+use Rattle.supply.proofs.Supply.{cycle-small}
 use Rattle.bounds.specs.Flagged.{asks}
-use Rattle.bounds.proofs.Agreeing.{lent-table, cycle-table, cycle-small}
+use Rattle.bounds.proofs.Agreeing.{lent-table, cycle-table}
 use borrow.Author.Needs.{needs}
 use Rattle.bounds.proofs.questions.cycle.Statement.{statement}
 use Rattle.bounds.proofs.questions.cycle.Tie as tie

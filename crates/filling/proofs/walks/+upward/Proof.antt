@@ -10,8 +10,8 @@ use borrow.Author.Needs.{needs}
 use Prim.Native.Nat.{ℕ, _-_, _<_}
 use borrow.Fn.Kinds.{In}
 use borrow.Fn.PlainCycle.{Measures, is, falls, and}
+use Rattle.numbers.proofs.long.Reads as long-reads
 use Rattle.table.proofs.paths.number.Reads as number-reads
-use Rattle.slice.proofs.numbers.long.Reads as long-reads
 use Rattle.slice.proofs.points.lower.Reads as lower-reads
 use Rattle.filling.proofs.walks.upward.Reads as upward
 use Rattle.filling.proofs.walks.upward.Kinds as upward-kinds

@@ -2,8 +2,8 @@
 use Prim.Native.Nat.{_-_}
 use mathlib.Core.Path.{sym, _∙_}
 use borrow.Author.Needs.{needs}
-use Rattle.table.specs.Columns.{guardsOver, gapIn}
 use Rattle.table.specs.Rules.{locationPlace}
+use Rattle.guards.specs.Children.{guardsOver, gapIn}
 use Rattle.judge.proofs.Lowest.{Kept, kept-none, kept-more, lowest-found, lowest-none}
 use Rattle.judge.proofs.rules.judge_gap.Statement.{statement}
 use Rattle.judge.proofs.rules.judge_gap.Tie as tie

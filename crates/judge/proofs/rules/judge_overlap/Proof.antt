@@ -2,8 +2,8 @@
 use Prim.Native.Nat.{_-_}
 use mathlib.Core.Path.{sym, _∙_}
 use borrow.Author.Needs.{needs}
-use Rattle.table.specs.Columns.{guardsOver, overlapIn}
 use Rattle.table.specs.Rules.{locationPlace}
+use Rattle.guards.specs.Children.{guardsOver, overlapIn}
 use Rattle.judge.proofs.Lowest.{Kept, kept-none, kept-more, lowest-found, lowest-none}
 use Rattle.judge.proofs.rules.judge_overlap.Statement.{statement}
 use Rattle.judge.proofs.rules.judge_overlap.Tie as tie

@@ -12,10 +12,11 @@ use Rattle.theory.specs.Tree.{Tree}
 use Rattle.theory.proofs.Guards.{SomeValue}
 use Rattle.table.specs.declared.Refusal.{Refusal}
 use Rattle.table.specs.declared.Table.{Table}
-use Rattle.table.specs.Columns.{entry, guardsOver, gapIn, overlapIn}
+use Rattle.table.specs.Columns.{entry}
 use Rattle.table.specs.Rules.{breaksShape, breaksGap, breaksOverlap, breaksPeriod, refuse, fine, lowestLocation, locationPlace}
 use Rattle.table.proofs.Ranged.{ranged}
 use Rattle.table.proofs.Unbroken.{refuse-nobody}
+use Rattle.guards.specs.Children.{guardsOver, gapIn, overlapIn}
 use Rattle.judge.proofs.Agree.{gap-agrees, overlap-agrees, period-agrees, some-value, falls}
 use Rattle.judge.proofs.Lowest.{refused, passed}
 use Rattle.judge.proofs.rules.judge_tree.Statement.{statement}

@@ -11,10 +11,10 @@ use Rattle.table.specs.declared.Table.{Table}
 use Rattle.table.specs.Table.{tasksOf}
 use Rattle.table.specs.Rules.{WellFormed}
 use Rattle.table.specs.Columns.{entry}
+use Rattle.supply.specs.Supply.{Supplied}
+use Rattle.supply.proofs.Supply.{least, cycle-le, entry-small, supply-is}
 use Rattle.demand.specs.Ahead.{LaidOut}
-use Rattle.search.specs.Supply.{Supplied}
 use Rattle.search.proofs.Answers.{verdict-meets, verdict-short}
-use Rattle.search.proofs.Supply.{least, cycle-le, entry-small, supply-is}
 use Rattle.search.proofs.Swept.{Swept, Scanned, demand-few, swept-first, meets-past, block-small, scan-first, demand-here, demand-stays, short-here, scan-more, swept-more}
 use Rattle.search.proofs.verdicts.decide.Statement.{statement}
 use Rattle.search.proofs.verdicts.decide.Tie as tie
@@ -112,10 +112,10 @@ module _ (c : tie.In-loop2 Inv-loop2 μ-loop2 Inv-loop μ-loop) where
       scan-more (t place) (formed place) (q place) (gaps place) (works place) (n place) _ _ _ _ _ (past .advance .ensures) _ _ (c .before .loop2 .inv .1) (c .loop2-test .taken) h
 
 -- the supply there
-supplied : (c : tie.After-supply Inv-loop2 μ-loop2 Inv-loop μ-loop) → c .supply .result ≡ least (t (place (c .before .before))) (q (place (c .before .before))) (window (c .before .before))
+supplied : (c : tie.After-at Inv-loop2 μ-loop2 Inv-loop μ-loop) → c .at .result ≡ least (t (place (c .before .before))) (q (place (c .before .before))) (window (c .before .before))
 supplied c =
     let b = place (c .before .before) in
-    c .supply .ensures ∙ supply-is (t b) (formed b) (q b) (filled b) (cycle b) (known b) (window (c .before .before))
+    c .at .ensures ∙ supply-is (t b) (formed b) (q b) (filled b) (cycle b) (known b) (window (c .before .before))
 
 lay-out-requires : tie.Need-lay-out-requires Inv-loop2 μ-loop2 Inv-loop μ-loop
 lay-out-requires c κs = search needs
@@ -161,8 +161,8 @@ cast-window c = search needs
 add-window : tie.Need-add-window Inv-loop2 μ-loop2 Inv-loop μ-loop
 add-window c = omega (arith, near (turn (past (c .before))), c .before .loop2-test .taken)
 
-supply-requires : tie.Need-supply-requires Inv-loop2 μ-loop2 Inv-loop μ-loop
-supply-requires c κs =
+at-requires : tie.Need-at-requires Inv-loop2 μ-loop2 Inv-loop μ-loop
+at-requires c κs =
     let b = place (c .before) in
     let P = formed b .period in (
       (
@@ -182,7 +182,7 @@ returns c =
     let s = c .before .before in
     let i = s .before .before in
     let b = place i in
-    verdict-short (t b) (q b) (c .short .result) (window i) (demanded i) (s .supply .result) (c .short .ensures)
+    verdict-short (t b) (q b) (c .short .result) (window i) (demanded i) (s .at .result) (c .short .ensures)
     (short-here (t b) (formed b) (q b) (gaps b) (works b) (n b) _ _ _ _ _ (past i .advance .ensures) _ _ (i .before .loop2 .inv .1) (i .loop2-test .taken) _ (swept (turn (past i)) .some) (supplied s) (c .before .if2 .taken))
 
 add-i : tie.Need-add-i Inv-loop2 μ-loop2 Inv-loop μ-loop
@@ -198,7 +198,7 @@ loop2-again c =
       omega (arith, i .loop2-test .taken),
       ⊎-elim
           (λ w.
-          let s : tie.After-supply Inv-loop2 μ-loop2 Inv-loop μ-loop = record { before = record { before = i; if1 = w .0 }; supply = w .1 } in
+          let s : tie.After-at Inv-loop2 μ-loop2 Inv-loop μ-loop = record { before = record { before = i; if1 = w .0 }; at = w .1 } in
           fits i (omega (arith, supplied s, w .2 .left)))
           (λ w.
           fits i
@@ -235,7 +235,7 @@ decide-spec =
     add-demand
     cast-window
     add-window
-    supply-requires
+    at-requires
     short-requires
     returns
     add-i

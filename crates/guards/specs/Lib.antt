@@ -1,0 +1,2 @@
+-- What the guards of a location's children hold.
+pub mod Children

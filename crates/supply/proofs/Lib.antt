@@ -1,0 +1,2 @@
+-- What a filling tells of every window.
+pub mod Supply

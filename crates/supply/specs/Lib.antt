@@ -1,0 +1,2 @@
+-- A queue's supply, from its filling.
+pub mod Supply

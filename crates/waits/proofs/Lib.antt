@@ -1,0 +1,2 @@
+-- The law behind the wait.
+pub mod LongestWait

@@ -1,0 +1,2 @@
+-- What the search for a wait finds.
+pub mod Reaches

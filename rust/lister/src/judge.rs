@@ -85,31 +85,31 @@ fn shape(table: &Table) -> Option<usize> {
 
 /// For each value from 0 to 65,535 the number of children whose guard holds it.
 fn holders(table: &Table, children: &[usize]) -> Vec<u8> {
-    let mut holders = vec![0; usize::from(u16::MAX) + 1];
+    let mut holders = vec![0u8; usize::from(u16::MAX) + 1];
     for &child in children {
         let Location { low, high, .. } = table.locations[child];
         for held in &mut holders[usize::from(low)..=usize::from(high)] {
-            *held += 1;
+            *held = held.saturating_add(1);
         }
     }
     holders
 }
 
-/// The lowest parent with a value that a bad number of children holds.
-fn guards(table: &Table, is_bad: impl Fn(u8) -> bool) -> Option<usize> {
+/// The lowest parent whose children's guards hold the values badly.
+fn guards(table: &Table, is_bad: impl Fn(&[u8]) -> bool) -> Option<usize> {
     let broken = (0..table.location_count).find(|&parent| {
         let children = table.children(parent);
-        !children.is_empty() && holders(table, &children).into_iter().any(&is_bad)
+        !children.is_empty() && is_bad(&holders(table, &children))
     });
     broken.map(location_field)
 }
 
 fn gap(table: &Table) -> Option<usize> {
-    guards(table, |children| children == 0)
+    guards(table, |holders| holders.contains(&0))
 }
 
 fn overlap(table: &Table) -> Option<usize> {
-    guards(table, |children| children >= 2)
+    guards(table, |holders| holders.iter().copied().fold(0, u8::max) >= 2)
 }
 
 fn period(table: &Table) -> Option<usize> {

@@ -7,6 +7,7 @@ ghost use Prim.Native.Nat.{_+_, _<_, _≤_};
 ghost use lib.ListN.{length};
 use table::Refusal;
 use table::Table;
+use table::paths;
 use words::text;
 
 mod answers; // answers.rt: ticks, refusals and verdicts as words
@@ -50,9 +51,9 @@ fn parts_at(s: &[u8], at: usize) -> Parts
     if n < name {
         return cut;
     }
-    let steps = name + numbers::wide(s[at]);
-    let bytes = steps + numbers::number16(s, at + 10);
-    let end = bytes + numbers::number16(s, at + 12);
+    let steps = name + paths::number(s[at]);
+    let bytes = steps + numbers::number16(s, at + 10) as usize;
+    let end = bytes + numbers::number16(s, at + 12) as usize;
     if n < end {
         return cut;
     }

@@ -2,25 +2,13 @@
 use crate::answers::refused;
 use table::Refusal;
 use table::Table;
-use words::number;
+use words::bytes;
 use words::text;
 
 // The bytes lent to the writer, and what they hold before.
 const LENT: usize = 2048;
 
 const FILLED: u8 = 7;
-
-fn item(byte: u8) {
-    number(byte as u64);
-}
-
-fn payload(s: &[u8]) {
-    let mut i: usize = 0;
-    while i < s.len() {
-        item(s[i]);
-        i += 1;
-    }
-}
 
 // The payload of field k; the part of a refused question is empty.
 pub fn field(s: &[u8], k: usize) {
@@ -31,7 +19,7 @@ pub fn field(s: &[u8], k: usize) {
     } else {
         refused(refusal);
     }
-    payload(part);
+    bytes(part);
 }
 
 // Has the writer put the record s to the front of `out`, and left the bytes past it as they were in `before`?

@@ -12,26 +12,19 @@ use runner::State;
 use runner::StepAnswer;
 use table::Refusal;
 use table::Table;
-use words::number;
-use words::text;
+use words::steps;
 
 const STEP: usize = 20;
 
 const STATE: usize = 195;
 
-fn value(s: &[u8], at: usize) -> u16
-    requires { ⌜ at + 2 ≤ length (now s) ⌝ }
-{
-    number16(s, at) as u16
-}
-
 fn job(s: &[u8], at: usize) -> Job
     requires { ⌜ at + 6 ≤ length (now s) ⌝ }
 {
     Job {
-        since: value(s, at),
-        remaining: value(s, at + 2),
-        left: value(s, at + 4),
+        since: number16(s, at),
+        remaining: number16(s, at + 2),
+        left: number16(s, at + 4),
     }
 }
 
@@ -51,7 +44,7 @@ fn state(s: &[u8]) -> State
     }
     State {
         location: s[0],
-        done: value(s, 1),
+        done: number16(s, 1),
         jobs: jobs,
     }
 }
@@ -61,64 +54,16 @@ fn step(table: Table, state: State, s: &[u8], at: usize) -> StepAnswer
     requires { ⌜ at + 20 ≤ length (now s) ⌝ }
 {
     let values = [
-        value(s, at),
-        value(s, at + 2),
-        value(s, at + 4),
-        value(s, at + 6),
-        value(s, at + 8),
-        value(s, at + 10),
-        value(s, at + 12),
-        value(s, at + 14),
+        number16(s, at),
+        number16(s, at + 2),
+        number16(s, at + 4),
+        number16(s, at + 6),
+        number16(s, at + 8),
+        number16(s, at + 10),
+        number16(s, at + 12),
+        number16(s, at + 14),
     ];
     state.step(table, values, number32(s, at + 16))
-}
-
-fn print_step(answer: StepAnswer) {
-    let refusal = answer.refusal;
-    if refusal.number != Refusal::NONE {
-        refused(refusal);
-        text(b",");
-        return;
-    }
-    number(answer.queue as u64);
-    if answer.served {
-        number(answer.task as u64);
-    } else {
-        text(b" -");
-    }
-    number(answer.late as u64);
-    text(b",");
-}
-
-// A job of zeros is left out.
-fn print_job(i: usize, job: Job) {
-    if job.since == 0 {
-        if job.remaining == 0 {
-            if job.left == 0 {
-                return;
-            }
-        }
-    }
-    text(b" job");
-    number(i as u64);
-    number(job.since as u64);
-    number(job.remaining as u64);
-    number(job.left as u64);
-}
-
-fn print_jobs(state: State) {
-    let mut i: usize = 0;
-    while i < Table::TASKS {
-        print_job(i, state.jobs[i]);
-        i += 1;
-    }
-}
-
-fn print_state(state: State) {
-    text(b" at");
-    number(state.location as u64);
-    number(state.done as u64);
-    print_jobs(state);
 }
 
 // The steps from a state on; a refused step hands back the state, and the next one follows.
@@ -127,11 +72,11 @@ fn run(table: Table, start: State, s: &[u8]) {
     let mut at: usize = 0;
     while at + STEP <= s.len() {
         let answer = step(table, state, s, at);
-        print_step(answer);
+        steps::step(answer);
         state = answer.state;
         at += STEP;
     }
-    print_state(state);
+    steps::state(state);
 }
 
 pub fn from_fresh(table: Table, steps: &[u8]) {

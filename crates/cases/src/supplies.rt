@@ -2,6 +2,7 @@
 use crate::answers::refused;
 use table::Refusal;
 use table::Table;
+use words::entries;
 use words::number;
 
 // The entries lent for a filling, and what they hold before.
@@ -21,18 +22,6 @@ pub fn cycle(table: Table, queue: u32) {
     }
     number(answer.least as u64);
     number(answer.most as u64);
-}
-
-fn item(entry: u32) {
-    number(entry as u64);
-}
-
-fn entries(s: &[u32]) {
-    let mut i: usize = 0;
-    while i < s.len() {
-        item(s[i]);
-        i += 1;
-    }
 }
 
 // Fills the lent entries, and prints those from `from` on.

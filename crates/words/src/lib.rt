@@ -1,7 +1,10 @@
-// The words that programs print: decimal numbers, each after a blank, a refusal and a verdict (docs/RULES.md, The listing).
+// The words that programs print: decimal numbers, each after a blank, a refusal and a verdict (docs/RULES.md, The listing), and
+// what a step answers.
 use libc::STDOUT_FILENO;
 use search::VerdictAnswer;
 use table::Refusal;
+
+pub mod steps; // steps.rt: a step and a state
 
 pub fn text(s: &[u8]) {
     io::write_all(STDOUT_FILENO, s);
@@ -10,6 +13,30 @@ pub fn text(s: &[u8]) {
 pub fn number(n: u64) {
     text(b" ");
     io::print_decimal(STDOUT_FILENO, n);
+}
+
+fn byte(x: u8) {
+    number(x as u64);
+}
+
+pub fn bytes(s: &[u8]) {
+    let mut i: usize = 0;
+    while i < s.len() {
+        byte(s[i]);
+        i += 1;
+    }
+}
+
+fn entry(x: u32) {
+    number(x as u64);
+}
+
+pub fn entries(s: &[u32]) {
+    let mut i: usize = 0;
+    while i < s.len() {
+        entry(s[i]);
+        i += 1;
+    }
 }
 
 pub fn refused(refusal: Refusal) {

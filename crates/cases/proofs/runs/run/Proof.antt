@@ -20,8 +20,8 @@ add-loop c = search needs
 step-requires : tie.Need-step-requires Inv-loop μ-loop
 step-requires c κs = search needs
 
-print-step-requires : tie.Need-print-step-requires Inv-loop μ-loop
-print-step-requires c κs = search needs
+step-requires-2 : tie.Need-step-requires-2 Inv-loop μ-loop
+step-requires-2 c κs = search needs
 
 add-at : tie.Need-add-at Inv-loop μ-loop
 add-at c = search needs
@@ -32,8 +32,8 @@ loop-less c = search needs
 loop-again : tie.Need-loop-again Inv-loop μ-loop
 loop-again c = search needs
 
-print-state-requires : tie.Need-print-state-requires Inv-loop μ-loop
-print-state-requires c κs = search needs
+state-requires : tie.Need-state-requires Inv-loop μ-loop
+state-requires c κs = search needs
 
 returns : tie.Need-returns Inv-loop μ-loop
 returns c = search needs
@@ -47,9 +47,9 @@ run-spec =
     loop-holds
     add-loop
     step-requires
-    print-step-requires
+    step-requires-2
     add-at
     loop-less
     loop-again
-    print-state-requires
+    state-requires
     returns)

@@ -40,8 +40,8 @@ loop-again c = search needs
 shared-slice-read-t13 : tie.Need-shared-slice-read-t13 Inv-loop μ-loop
 shared-slice-read-t13 c = search needs
 
-value-requires : tie.Need-value-requires Inv-loop μ-loop
-value-requires c κs = search needs
+number16-requires : tie.Need-number16-requires Inv-loop μ-loop
+number16-requires c κs = search needs
 
 returns : tie.Need-returns Inv-loop μ-loop
 returns c = search needs
@@ -62,5 +62,5 @@ state-spec =
     loop-less
     loop-again
     shared-slice-read-t13
-    value-requires
+    number16-requires
     returns)

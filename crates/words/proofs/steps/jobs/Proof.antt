@@ -1,8 +1,8 @@
--- `cases::runs::print_jobs` is safe and ends: the index stays below 32. Assumes nothing.
+-- `words::steps::jobs` is safe and ends: the index stays below 32. Assumes nothing.
 use Prim.Native.Nat.{_-_, _≤_}
 use borrow.Author.Needs.{needs}
-use Rattle.cases.proofs.runs.print_jobs.Statement.{statement}
-use Rattle.cases.proofs.runs.print_jobs.Tie as tie
+use Rattle.words.proofs.steps.jobs.Statement.{statement}
+use Rattle.words.proofs.steps.jobs.Tie as tie
 
 abbrev Inv-loop : tie.InvT-loop
 Inv-loop state i₀ i = i ≤ 32
@@ -13,14 +13,14 @@ abbrev μ-loop : tie.MeasureT-loop
 loop-holds : tie.Need-loop-holds Inv-loop μ-loop
 loop-holds c = search needs
 
-mul-print-job : tie.Need-mul-print-job Inv-loop μ-loop
-mul-print-job c = search needs
+mul-job : tie.Need-mul-job Inv-loop μ-loop
+mul-job c = search needs
 
-element-copy-out-print-job : tie.Need-element-copy-out-print-job Inv-loop μ-loop
-element-copy-out-print-job c = search needs
+element-copy-out-job : tie.Need-element-copy-out-job Inv-loop μ-loop
+element-copy-out-job c = search needs
 
-print-job-requires : tie.Need-print-job-requires Inv-loop μ-loop
-print-job-requires c κs = search needs
+job-requires : tie.Need-job-requires Inv-loop μ-loop
+job-requires c κs = search needs
 
 add-i : tie.Need-add-i Inv-loop μ-loop
 add-i c = search needs
@@ -34,16 +34,16 @@ loop-again c = search needs
 returns : tie.Need-returns Inv-loop μ-loop
 returns c = search needs
 
-pub print-jobs-spec : {M : Type 1} → statement M
-print-jobs-spec =
+pub jobs-spec : {M : Type 1} → statement M
+jobs-spec =
     tie.close
     (tie.spec
     Inv-loop
     μ-loop
     loop-holds
-    mul-print-job
-    element-copy-out-print-job
-    print-job-requires
+    mul-job
+    element-copy-out-job
+    job-requires
     add-i
     loop-less
     loop-again

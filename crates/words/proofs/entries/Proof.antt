@@ -1,9 +1,9 @@
--- `cases::supplies::entries` is safe and ends: the index stays within the slice. Assumes nothing.
+-- `words::entries` is safe and ends: the index stays within the slice. Assumes nothing.
 use Prim.Native.Nat.{_-_, _≤_}
 use lib.ListN.{length}
 use borrow.Author.Needs.{needs}
-use Rattle.cases.proofs.supplies.entries.Statement.{statement}
-use Rattle.cases.proofs.supplies.entries.Tie as tie
+use Rattle.words.proofs.entries.Statement.{statement}
+use Rattle.words.proofs.entries.Tie as tie
 
 abbrev Inv-loop : tie.InvT-loop
 Inv-loop s i₀ i = i ≤ length s
@@ -14,14 +14,14 @@ abbrev μ-loop : tie.MeasureT-loop
 loop-holds : tie.Need-loop-holds Inv-loop μ-loop
 loop-holds c = search needs
 
-mul-item : tie.Need-mul-item Inv-loop μ-loop
-mul-item c = search needs
+mul-entry : tie.Need-mul-entry Inv-loop μ-loop
+mul-entry c = search needs
 
-shared-slice-read-item : tie.Need-shared-slice-read-item Inv-loop μ-loop
-shared-slice-read-item c = search needs
+shared-slice-read-entry : tie.Need-shared-slice-read-entry Inv-loop μ-loop
+shared-slice-read-entry c = search needs
 
-item-requires : tie.Need-item-requires Inv-loop μ-loop
-item-requires c κs = search needs
+entry-requires : tie.Need-entry-requires Inv-loop μ-loop
+entry-requires c κs = search needs
 
 add-i : tie.Need-add-i Inv-loop μ-loop
 add-i c = search needs
@@ -42,9 +42,9 @@ entries-spec =
     Inv-loop
     μ-loop
     loop-holds
-    mul-item
-    shared-slice-read-item
-    item-requires
+    mul-entry
+    shared-slice-read-entry
+    entry-requires
     add-i
     loop-less
     loop-again

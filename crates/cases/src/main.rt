@@ -15,6 +15,7 @@ mod numbers; // numbers.rt: the numbers of the data
 mod records; // records.rt: reading, writing and fields
 mod refusals; // refusals.rt: every question about a table that is not well formed
 mod runs; // runs.rt: steps of the runner
+mod steps; // steps.rt: a step and a state as words
 mod supplies; // supplies.rt: cycles and fillings
 
 // The bytes of a question before its name.

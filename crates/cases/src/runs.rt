@@ -7,12 +7,12 @@ ghost use lib.ListN.{length};
 use crate::answers::refused;
 use crate::numbers::number16;
 use crate::numbers::number32;
+use crate::steps;
 use job::Job;
 use runner::State;
 use runner::StepAnswer;
 use table::Refusal;
 use table::Table;
-use words::steps;
 
 const STEP: usize = 20;
 

@@ -1,10 +1,7 @@
-// The words that programs print: decimal numbers, each after a blank, a refusal and a verdict (docs/RULES.md, The listing), and
-// what a step answers.
+// The words that programs print: decimal numbers, each after a blank, a refusal and a verdict (docs/RULES.md, The listing).
 use libc::STDOUT_FILENO;
 use search::VerdictAnswer;
 use table::Refusal;
-
-pub mod steps; // steps.rt: a step and a state
 
 pub fn text(s: &[u8]) {
     io::write_all(STDOUT_FILENO, s);

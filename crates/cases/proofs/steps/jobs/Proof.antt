@@ -1,8 +1,8 @@
--- `words::steps::jobs` is safe and ends: the index stays below 32. Assumes nothing.
+-- `cases::steps::jobs` is safe and ends: the index stays below 32. Assumes nothing.
 use Prim.Native.Nat.{_-_, _≤_}
 use borrow.Author.Needs.{needs}
-use Rattle.words.proofs.steps.jobs.Statement.{statement}
-use Rattle.words.proofs.steps.jobs.Tie as tie
+use Rattle.cases.proofs.steps.jobs.Statement.{statement}
+use Rattle.cases.proofs.steps.jobs.Tie as tie
 
 abbrev Inv-loop : tie.InvT-loop
 Inv-loop state i₀ i = i ≤ 32

@@ -1,18 +1,17 @@
 // A step's answer and a state as words, each after a blank.
-use crate::number;
-use crate::refused;
-use crate::text;
+use crate::answers::refused;
 use job::Job;
 use runner::State;
 use runner::StepAnswer;
 use table::Refusal;
 use table::Table;
+use words::number;
+use words::text;
 
 // The queue granted, the task served and the late set, or the refusal.
 pub fn step(answer: StepAnswer) {
     let refusal = answer.refusal;
     if refusal.number != Refusal::NONE {
-        text(b" ");
         refused(refusal);
         text(b",");
         return;

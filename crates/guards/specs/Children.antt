@@ -20,6 +20,7 @@ gapIn t v = not (isLeaf t v) && not (none (λ x. none (leadsIn t v x) (t .size))
 abbrev pub overlapIn : Tree → ℕ → Bool
 overlapIn t v = not (none (λ x. not (none (λ u. leadsIn t v x u && not (none (leadsIn t v x) u)) (t .size))) (suc top))
 
+-- n locations with these parents, lows and highs.
 abbrev pub guardsOver : List ℕ → List ℕ → List ℕ → ℕ → Tree
 guardsOver parents lows highs n = treeOver n (entry parents) zeros (entry lows) (entry highs)
 

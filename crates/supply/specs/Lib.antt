@@ -1,2 +1,2 @@
--- A queue's supply, from its filling.
+-- What a filling tells.
 pub mod Supply

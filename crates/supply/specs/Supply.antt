@@ -1,4 +1,4 @@
--- A queue's supply from a filling.
+-- The least of every window from a filling.
 use mathlib.Core.List.{List}
 use Prim.Native.Nat.{ℕ, _+_, _-_, _*_, _/_, _%_, _<_}
 use lib.Dec.{ltb}

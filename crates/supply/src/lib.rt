@@ -1,4 +1,4 @@
-// A queue's supply from its filling: the least of every window, by the law of the period (docs/RULES.md, Runs and bounds).
+// From a filling to the least of every window, by the law of the period (docs/RULES.md, Runs and bounds).
 ghost use mathlib.Core.Path.{_≡_};
 ghost use Prim.Native.Nat.{ℕ, _*_, _<_, _≤_};
 ghost use Rattle.table.specs.Columns.{entry};

@@ -1,4 +1,4 @@
-// Guards: the child that a value leads to, gaps, and overlaps (docs/RULES.md, Tables).
+// Guards: the child that a value leads to, gaps, and overlaps (docs/RULES.md, Locations and guards).
 ghost use mathlib.Core.Path.{_≡_};
 ghost use mathlib.Core.Bool.{not, _&&_};
 ghost use Prim.Native.Nat.{suc, _-_, _<_, _≤_};

@@ -1,4 +1,6 @@
 // The bounds of a table: least, most, cycle least and most, and the filling (docs/RULES.md, Runs and bounds).
+#![tactic(auto)]
+
 ghost use Rattle.bounds.specs.Questions.{LeastAnswer, MostAnswer, CycleAnswers, Fills};
 
 mod flags; // flags.rt: which locations are the queue's
@@ -9,14 +11,14 @@ use table::{Refusal, Table};
 
 // A number of ticks, 0 beside a refusal.
 #[repr(C)]
-#[derive(Drop)]
+#[derive(Clone, Copy)]
 pub struct TicksAnswer {
     pub refusal: Refusal,
     pub ticks: u32,
 }
 
 #[repr(C)]
-#[derive(Drop)]
+#[derive(Clone, Copy)]
 pub struct CycleAnswer {
     pub refusal: Refusal,
     pub least: u32,

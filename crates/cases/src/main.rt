@@ -3,6 +3,8 @@
 //
 // A file has for each question: length of its name (1 byte), kind (1), two numbers (4 each), lengths of the steps (2) and of the
 // record (2); then name, steps and record.
+#![tactic(auto)]
+
 ghost use Rattle.std.specs.Prelude.{◌+◌, ◌<◌, ◌≤◌, length};
 
 use table::{Refusal, Table, paths};
@@ -20,7 +22,7 @@ mod supplies; // supplies.rt: cycles and fillings
 const HEAD: usize = 14;
 
 // What is asked, with the two numbers that the question takes.
-#[derive(Drop)]
+#[derive(Clone, Copy)]
 struct Asked {
     kind: u8,
     first: u32,
@@ -28,7 +30,7 @@ struct Asked {
 }
 
 // Where the parts of a question lie: name, steps and record, up to the end.
-#[derive(Drop)]
+#[derive(Clone, Copy)]
 struct Parts {
     name: usize,
     steps: usize,

@@ -1,5 +1,7 @@
 // What C and Rust link: each question under one prefix, over numbers, lent slices and structs by value.
 // Each function repeats the contract of the one that it calls.
+#![tactic(auto)]
+
 mod steps; // steps.rt: the fresh state and the step
 mod tables; // tables.rt: judging, reading, writing, one field of a record
 mod windows; // windows.rt: bounds, demand, verdict, wait

@@ -1,4 +1,6 @@
 // The least of every window below two periods, from columns.
+#![tactic(auto)]
+
 ghost use Rattle.std.specs.Prelude.{◌≡◌, ◌-◌, ◌*◌, ◌≤◌, length};
 ghost use Rattle.theory.specs.Grants.{is};
 ghost use Rattle.theory.specs.Cycles.{system, cycle_least, least_of};

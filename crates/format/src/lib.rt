@@ -1,5 +1,6 @@
 // The format of a record (docs/RULES.md, The record): each kind of field by its tag, the length of its payload, and the bytes
 // of the whole field.
+#![tactic(auto)]
 
 pub mod bytes; // bytes.rt: numbers of two bytes
 pub mod refusals; // refusals.rt: the tests at one field

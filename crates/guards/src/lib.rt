@@ -1,4 +1,6 @@
 // Guards: the child that a value leads to, gaps, and overlaps (docs/RULES.md, Locations and guards).
+#![tactic(auto)]
+
 ghost use Rattle.std.specs.Prelude.{◌≡◌, not, ◌&&◌, suc, ◌-◌, ◌<◌, ◌≤◌, T, leb};
 ghost use Rattle.theory.specs.Guards.{onto};
 ghost use Rattle.theory.proofs.Guards.{SomeValue};

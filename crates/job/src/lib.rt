@@ -1,4 +1,6 @@
 // One job of a state, and what the step rules do to it (docs/RULES.md, The runner).
+#![tactic(auto)]
+
 ghost use Rattle.std.specs.Prelude.{◌≡◌, not, ◌&&◌, ◌||◌, ◌+◌, ◌-◌, ◌<◌, min, eqb, ltb};
 ghost use Rattle.laws.specs.Test.{pick};
 ghost use Rattle.laws.specs.Bits.{in_set};
@@ -10,7 +12,7 @@ use table::Task;
 
 // Ticks since the last release, work that remains, ticks left to the deadline.
 #[repr(C)]
-#[derive(Drop)]
+#[derive(Clone, Copy)]
 pub struct Job {
     pub since: u16,
     pub remaining: u16,

@@ -1,4 +1,6 @@
 // The jobs of a state: the step rules over those of all tasks, each a pass of its own (docs/RULES.md, The runner).
+#![tactic(auto)]
+
 ghost use Rattle.std.specs.Prelude.{◌≡◌, ◌≤◌, ◌<◌, replicate};
 ghost use Rattle.laws.specs.Bits.{in_set, set_of};
 ghost use Rattle.theory.specs.Steps.{names, released, earliest};
@@ -11,7 +13,7 @@ use job::Job;
 use table::{Table, Task};
 
 // Whether the tick serves a task, and which one; 0 where none.
-#[derive(Drop)]
+#[derive(Clone, Copy)]
 pub struct Choice {
     pub served: bool,
     pub task: usize,

@@ -1,4 +1,6 @@
 // The judge of a table: which rule it breaks, and where (docs/RULES.md, Refusals).
+#![tactic(auto)]
+
 ghost use Rattle.std.specs.Prelude.{◌≡◌};
 ghost use Rattle.table.specs.Rules.{judged};
 

@@ -1,4 +1,6 @@
 // Prints the listing of the record on standard input (docs/RULES.md, The listing).
+#![tactic(auto)]
+
 use libc::STDIN_FILENO;
 use search::VerdictAnswer;
 use table::{Refusal, Table, paths};

@@ -5,7 +5,7 @@ use search::VerdictAnswer;
 use table::Table;
 
 // The verdict's refusal is HORIZON or none where the table and the queue are right.
-#[derive(Drop)]
+#[derive(Clone, Copy)]
 pub struct Row {
     pub least: u32,
     pub most: u32,

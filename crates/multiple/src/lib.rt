@@ -1,5 +1,7 @@
 // How far the verdict looks: the least common multiple of the period and of the gaps of a queue's tasks, up to a limit
 // (docs/RULES.md, Demand, verdict and wait).
+#![tactic(auto)]
+
 ghost use Rattle.std.specs.Prelude.{◌≡◌, ◌≤◌};
 ghost use Rattle.theory.specs.Search.{lcm, lcm_of};
 ghost use Rattle.table.specs.Table.{tasks_of};

@@ -1,4 +1,6 @@
 // Small steps on numbers, each with its value in its contract.
+#![tactic(auto)]
+
 ghost use Rattle.std.specs.Prelude.{◌≡◌, ◌+◌, ◌-◌, ◌<◌, min};
 
 pub fn long(x: u32) -> usize

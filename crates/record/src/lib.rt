@@ -1,4 +1,6 @@
 // The record of a table as bytes: reading it, and the question for one field (docs/RULES.md, The record).
+#![tactic(auto)]
+
 mod front; // front.rt: the fields from the front
 mod offsets; // offsets.rt: where the payloads lie
 mod payload; // payload.rt: what a payload holds
@@ -10,7 +12,7 @@ ghost use Rattle.record.specs.Field.{field_refusal, part_of, part_offset, field_
 use table::{Refusal, Table};
 
 #[repr(C)]
-#[derive(Drop)]
+#[derive(Clone, Copy)]
 pub struct ReadAnswer {
     pub refusal: Refusal,
     pub table: Table,
@@ -18,7 +20,7 @@ pub struct ReadAnswer {
 
 // Where the payload of a field lies in the record; zeros beside a refusal.
 #[repr(C)]
-#[derive(Drop)]
+#[derive(Clone, Copy)]
 pub struct FieldAnswer {
     pub refusal: Refusal,
     pub offset: usize,

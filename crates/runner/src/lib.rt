@@ -1,4 +1,6 @@
 // The runner: it grants the ticks of a table, one step per tick (docs/RULES.md, The runner).
+#![tactic(auto)]
+
 ghost use Rattle.std.specs.Prelude.{◌≡◌};
 ghost use Rattle.runner.specs.State.{empty_state, fresh_answer};
 ghost use Rattle.runner.specs.Step.{step_answer};
@@ -12,7 +14,7 @@ mod steps; // steps.rt: a step refused, a step accepted
 
 // A location, how many of its ticks are done, and one job for each task; the entries past the tasks are 0.
 #[repr(C)]
-#[derive(Drop)]
+#[derive(Clone, Copy)]
 pub struct State {
     pub location: u8,
     pub done: u16,
@@ -20,7 +22,7 @@ pub struct State {
 }
 
 #[repr(C)]
-#[derive(Drop)]
+#[derive(Clone, Copy)]
 pub struct FreshAnswer {
     pub refusal: Refusal,
     pub state: State,
@@ -28,7 +30,7 @@ pub struct FreshAnswer {
 
 // The queue granted, whether a task is served and which one, and the late set.
 #[repr(C)]
-#[derive(Drop)]
+#[derive(Clone, Copy)]
 pub struct StepAnswer {
     pub refusal: Refusal,
     pub state: State,

@@ -9,7 +9,7 @@ use crate::State;
 use table::{Table, columns, paths};
 
 // A location, and how many of its ticks are done.
-#[derive(Drop)]
+#[derive(Clone, Copy)]
 pub struct Place {
     pub location: u8,
     pub done: u16,

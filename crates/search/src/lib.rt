@@ -1,4 +1,6 @@
 // From the filling to the verdict: the shortest window that is short (docs/RULES.md, Demand, verdict and wait).
+#![tactic(auto)]
+
 ghost use Rattle.std.specs.Prelude.{◌≡◌};
 ghost use Rattle.search.specs.Answers.{refused_answer, meets_answer, short_answer};
 
@@ -8,7 +10,7 @@ pub mod verdicts; // verdicts.rt: the shortest short window
 
 // MEETS, or the shortest window in which demand exceeds the least supply. Zeros beside a refusal and beside MEETS.
 #[repr(C)]
-#[derive(Drop)]
+#[derive(Clone, Copy)]
 pub struct VerdictAnswer {
     pub refusal: Refusal,
     pub meets: bool,

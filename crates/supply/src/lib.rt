@@ -1,4 +1,6 @@
 // From a filling to the least of every window, by the law of the period (docs/RULES.md, Runs and bounds).
+#![tactic(auto)]
+
 ghost use Rattle.std.specs.Prelude.{◌≡◌, ℕ, ◌*◌, ◌<◌, ◌≤◌};
 ghost use Rattle.table.specs.Columns.{entry};
 ghost use Rattle.supply.specs.Supply.{supply_at};

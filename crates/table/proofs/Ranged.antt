@@ -1,13 +1,13 @@
 -- Owning a table tells that its numbers are in their types' ranges: a need has it as `c.good`, a call's result as `.ok`. Assumes nothing.
 use Prim.Native.Nat.{ℕ, zero, suc}
-use mathlib.Core.List.{List, [], ◌∷◌, map}
-use lib.ListN.{get_or, length-map}
+use mathlib.Core.List.{List, [], ◌∷◌}
+use lib.ListN.{get_or}
 use lib.Dec.{lit<}
 use mir.Val.{Val}
 use denote.Array.{each}
 use denote.Shadow.{shadow}
 use denote.Laws.{Is}
-use denote.Struct.Declared.{field, row}
+use denote.Struct.Declared.{row}
 use Rattle.table.specs.declared.Location.{Location}
 use Rattle.table.specs.declared.Task.{Task}
 use Rattle.table.specs.declared.Table.{Table}
@@ -17,7 +17,7 @@ use Rattle.table.specs.contracts.Location as location
 use Rattle.table.specs.contracts.Task as task
 use Rattle.table.specs.contracts.Table as table
 
-locations : (xs : List Location) (us : List Val) → shadow (each (field location.the_type).row.Denot (field location.the_type).row.own_val (map (field location.the_type).into xs) us) → (v : ℕ) → RangedLocation (get_or xs v no_location)
+locations : (xs : List Location) (us : List Val) → shadow (each location.the_row.Denot location.the_row.own_val xs us) → (v : ℕ) → RangedLocation (get_or xs v no_location)
 locations [] us p v = record { parent = lit< tt; queue = lit< tt; ticks = lit< tt; variable = lit< tt; low = lit< tt; high = lit< tt }
 locations (x ∷ xs) [] p v = absurd p
 locations (x ∷ xs) (u ∷ us) p zero =
@@ -25,7 +25,7 @@ locations (x ∷ xs) (u ∷ us) p zero =
     record { parent = f.0.1; queue = f.1.0.1; ticks = f.1.1.0.1; variable = f.1.1.1.0.1; low = f.1.1.1.1.0.1; high = f.1.1.1.1.1.0.1 }
 locations (x ∷ xs) (u ∷ us) p (suc v) = locations xs us p.1 v
 
-tasks : (xs : List Task) (us : List Val) → shadow (each (field task.the_type).row.Denot (field task.the_type).row.own_val (map (field task.the_type).into xs) us) → (i : ℕ) → RangedTask (get_or xs i no_task)
+tasks : (xs : List Task) (us : List Val) → shadow (each task.the_row.Denot task.the_row.own_val xs us) → (i : ℕ) → RangedTask (get_or xs i no_task)
 tasks [] us p i = record { queue = lit< tt; work = lit< tt; deadline = lit< tt; gap = lit< tt }
 tasks (x ∷ xs) [] p i = absurd p
 tasks (x ∷ xs) (u ∷ us) p zero =
@@ -43,8 +43,8 @@ ranged t vs p =
       period = f.1.1.0.1;
       locations = f.1.1.1.0.1;
       tasks = f.1.1.1.1.0.1;
-      location_length = simp length-map at numbers.0.1.0.1;
-      task_length = simp length-map at numbers.1.0.1.0.1;
+      location_length = numbers.0.1.0.1;
+      task_length = numbers.1.0.1.0.1;
       location = locations t.location numbers.0.0 numbers.0.1.1;
       task = tasks t.task numbers.1.0.0 numbers.1.0.1.1;
     }

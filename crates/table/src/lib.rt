@@ -1,4 +1,6 @@
 // A table by value, in any condition, a refusal, and what is read off a table's columns (docs/RULES.md, Tables).
+#![tactic(auto)]
+
 ghost use Rattle.std.specs.Prelude.{◌≡◌};
 ghost use Rattle.table.specs.Table.{empty_table};
 ghost use Rattle.table.specs.Rules.{fine};
@@ -7,7 +9,7 @@ pub mod columns; // columns.rt: one field of every location
 pub mod paths; // paths.rt: leaves, and the ticks along a path
 
 #[repr(C)]
-#[derive(Drop)]
+#[derive(Clone, Copy)]
 pub struct Location {
     pub parent: u8,
     pub queue: u8,
@@ -19,7 +21,7 @@ pub struct Location {
 
 // The rules' C, D and T are `work`, `deadline` and `gap`.
 #[repr(C)]
-#[derive(Drop)]
+#[derive(Clone, Copy)]
 pub struct Task {
     pub queue: u8,
     pub work: u16,
@@ -29,7 +31,7 @@ pub struct Task {
 
 // `locations` and `tasks` say how many entries count; what lies past them means nothing.
 #[repr(C)]
-#[derive(Drop)]
+#[derive(Clone, Copy)]
 pub struct Table {
     pub version: u8,
     pub queues: u8,
@@ -94,7 +96,7 @@ impl Table {
 
 // Why an answer is refused, and where. Number 0 is no refusal.
 #[repr(C)]
-#[derive(Drop)]
+#[derive(Clone, Copy)]
 pub struct Refusal {
     pub number: u8,
     pub place: usize,

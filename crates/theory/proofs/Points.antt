@@ -17,7 +17,7 @@ use Rattle.theory.specs.Grants.{count}
 use Rattle.theory.specs.Bounds.{Least}
 use Rattle.theory.specs.Tree.{Tree, Leaf, before, upto, start, end, Formed, own}
 use Rattle.theory.specs.Cycles.{on_path, system, Choice, stream, cycles, cycle_least, least_of}
-use Rattle.theory.specs.Points.{Above, self, below, leaf_below, rest, Point, empty, within, crosses}
+use Rattle.theory.specs.Points.{Above, self, leaf_below, rest, Point, empty, within, crosses}
 use Rattle.theory.proofs.Grants.{count_split, count_same, count_le}
 use Rattle.theory.proofs.Bounds.{least_grows}
 use Rattle.theory.proofs.Paths.{before_root, before_child, on_path_law, ends_in_cycle, starts_in_cycle, some_tick}

@@ -1,1 +1,2 @@
 // No function: the crate holds what the rules mean, and the theorems about it.
+#![tactic(auto)]

@@ -1,4 +1,6 @@
 // Demand, verdict and wait of a queue (docs/RULES.md, Demand, verdict and wait).
+#![tactic(auto)]
+
 ghost use Rattle.std.specs.Prelude.{◌≡◌};
 ghost use Rattle.table.specs.Rules.{refusal};
 ghost use Rattle.verdict.specs.Questions.{DemandAnswer, VerdictAnswers, WaitAnswer};

@@ -1,4 +1,6 @@
 // The wait: the smallest window whose least supply reaches a number of ticks (docs/RULES.md, Demand, verdict and wait).
+#![tactic(auto)]
+
 ghost use Rattle.std.specs.Prelude.{◌≤◌};
 ghost use Rattle.theory.specs.Grants.{is};
 ghost use Rattle.theory.specs.Tree.{grants};

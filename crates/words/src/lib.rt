@@ -1,4 +1,6 @@
 // The words that programs print: decimal numbers, each after a blank, a refusal and a verdict (docs/RULES.md, The listing).
+#![tactic(auto)]
+
 use libc::STDOUT_FILENO;
 use search::VerdictAnswer;
 use table::Refusal;

@@ -1,4 +1,6 @@
 // Writing a table as its record (docs/RULES.md, The record; Reading, writing and the field question).
+#![tactic(auto)]
+
 ghost use Rattle.std.specs.Prelude.{◌≡◌, [], ◌∷◌, ◌+◌, ◌≤◌, length};
 ghost use Rattle.std.proofs.lemmas.List.Edits.{sets};
 ghost use Rattle.format.specs.Format.{high_byte, low_byte, header_field, location_field, task_field, location_fields, task_fields, record_of, location_offset, task_offset, record_length};
@@ -7,7 +9,7 @@ ghost use Rattle.writer.specs.Writing.{write_of, written};
 use table::{Location, Refusal, Table, Task};
 
 #[repr(C)]
-#[derive(Drop)]
+#[derive(Clone, Copy)]
 pub struct WriteAnswer {
     pub refusal: Refusal,
     pub length: usize,

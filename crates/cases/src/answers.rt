@@ -1,30 +1,29 @@
 // Answers as words, each after a blank.
 use bounds::TicksAnswer;
 use search::VerdictAnswer;
+use std::io;
 use table::Refusal;
 use words::{number, text};
 
-pub fn refused(refusal: Refusal) {
-    text(b" ");
-    words::refused(refusal);
+pub fn refused(rt: &impl Print, refusal: Refusal) -> io::Result<()> {
+    text(rt, b" ")?;
+    words::refused(rt, refusal)
 }
 
 // A number of ticks, or the refusal.
-pub fn ticks(answer: TicksAnswer) {
+pub fn ticks(rt: &impl Print, answer: TicksAnswer) -> io::Result<()> {
     let refusal = answer.refusal;
     if refusal.number != Refusal::NONE {
-        refused(refusal);
-        return;
+        return refused(rt, refusal);
     }
-    number(answer.ticks as u64);
+    number(rt, answer.ticks as u64)
 }
 
-pub fn verdict(answer: VerdictAnswer) {
+pub fn verdict(rt: &impl Print, answer: VerdictAnswer) -> io::Result<()> {
     let refusal = answer.refusal;
     if refusal.number != Refusal::NONE {
-        refused(refusal);
-        return;
+        return refused(rt, refusal);
     }
-    text(b" ");
-    words::verdict(answer);
+    text(rt, b" ")?;
+    words::verdict(rt, answer)
 }

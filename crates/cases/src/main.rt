@@ -5,8 +5,11 @@
 // record (2); then name, steps and record.
 #![tactic(auto)]
 
-ghost use Rattle.std.specs.Prelude.{◌+◌, ◌<◌, ◌≤◌, length};
+ghost use Rattle.std.specs.Prelude.{◌+◌, ◌<◌, ◌≤◌, length, IfOk};
 
+use std::io;
+use std::rt::Files;
+use std::fs;
 use table::{Refusal, Table, paths};
 use words::text;
 
@@ -20,6 +23,9 @@ mod supplies; // supplies.rt: cycles and fillings
 
 // The bytes of a question before its name.
 const HEAD: usize = 14;
+
+// Longer than any of the files.
+const SPACE: usize = 65536;
 
 // What is asked, with the two numbers that the question takes.
 #[derive(Clone, Copy)]
@@ -87,81 +93,75 @@ fn asked_at(s: &[u8], at: usize) -> Asked
 }
 
 // A question about a table that was read from the record s; the letters are those of rust/cases/src/question.rs.
-fn ask_table(table: Table, asked: Asked, steps: &[u8], s: &[u8]) {
+fn ask_table(rt: &impl Print, table: Table, asked: Asked, steps: &[u8], s: &[u8]) -> io::Result<()> {
     let first = asked.first;
     let second = asked.second;
     let kind = asked.kind;
     match kind {
-        b'r' => records::lend(s, table, first as usize),
-        b'l' => records::with_locations(s, table, first as usize),
-        b't' => records::with_tasks(s, table, first as usize),
-        b'L' => answers::ticks(bounds::least(table, first, second)),
-        b'M' => answers::ticks(bounds::most(table, first, second)),
-        b'C' => supplies::cycle(table, first),
-        b'F' => supplies::fill(table, first, second as usize, 0),
-        b'E' => supplies::fill(table, first, second as usize, supplies::LATE),
-        b'D' => answers::ticks(verdict::demand(table, first, second)),
-        b'V' => answers::verdict(verdict::verdict(table, first)),
-        b'W' => answers::ticks(verdict::wait(table, first, second)),
-        b'J' => refusals::all(table, first as usize, steps),
-        b'S' => runs::from_fresh(table, steps),
-        b'U' => runs::from_given(table, steps),
-        _ => {}
+        b'r' => records::lend(rt, s, table, first as usize),
+        b'l' => records::with_locations(rt, s, table, first as usize),
+        b't' => records::with_tasks(rt, s, table, first as usize),
+        b'L' => answers::ticks(rt, bounds::least(table, first, second)),
+        b'M' => answers::ticks(rt, bounds::most(table, first, second)),
+        b'C' => supplies::cycle(rt, table, first),
+        b'F' => supplies::fill(rt, table, first, second as usize, 0),
+        b'E' => supplies::fill(rt, table, first, second as usize, supplies::LATE),
+        b'D' => answers::ticks(rt, verdict::demand(table, first, second)),
+        b'V' => answers::verdict(rt, verdict::verdict(table, first)),
+        b'W' => answers::ticks(rt, verdict::wait(table, first, second)),
+        b'J' => refusals::all(rt, table, first as usize, steps),
+        b'S' => runs::from_fresh(rt, table, steps),
+        b'U' => runs::from_given(rt, table, steps),
+        _ => Ok(())
     }
 }
 
-fn ask(asked: Asked, steps: &[u8], s: &[u8]) {
+fn ask(rt: &impl Print, asked: Asked, steps: &[u8], s: &[u8]) -> io::Result<()> {
     if asked.kind == b'f' {
-        records::field(s, asked.first as usize);
-        return;
+        return records::field(rt, s, asked.first as usize);
     }
     let answer = record::read(s);
     let refusal = answer.refusal;
     if refusal.number != Refusal::NONE {
-        answers::refused(refusal);
-        return;
+        return answers::refused(rt, refusal);
     }
-    ask_table(answer.table, asked, steps, s);
+    ask_table(rt, answer.table, asked, steps, s)
 }
 
 // Asks the question at `at`, and answers where the next one begins.
-fn question(s: &[u8], at: usize) -> usize
+fn question(rt: &impl Print, s: &[u8], at: usize) -> io::Result<usize>
     requires { at < length s.now }
-    ensures { at < result }
+    ensures { IfOk result (λ next. at < next) }
 {
     let parts = parts_at(s, at);
     let name = parts.name;
     let steps = parts.steps;
     let bytes = parts.bytes;
     let end = parts.end;
-    text(&s[name..steps]);
-    ask(asked_at(s, at), &s[steps..bytes], &s[bytes..end]);
-    text(b"\n");
-    end
+    text(rt, &s[name..steps])?;
+    ask(rt, asked_at(s, at), &s[steps..bytes], &s[bytes..end])?;
+    text(rt, b"\n")?;
+    Ok(end)
 }
 
-fn questions(s: &[u8]) {
+fn questions(rt: &impl Print, s: &[u8]) -> io::Result<()> {
     let mut at: usize = 0;
     while at < s.len() {
-        at = question(s, at);
+        at = question(rt, s, at)?;
     }
+    Ok(())
 }
 
-fn file(path: &[u8]) {
-    let fd = os::open_read(path);
-    if fd < 0 {
-        os::fail(path);
-        return;
-    }
-    let mut space = io::large_buffer();
-    let n = io::read_full(fd, &mut space);
-    libc::close(fd);
-    questions(&space[..n]);
+fn file(rt: &(impl Files + Print), path: &str) -> io::Result<()> {
+    let mut input = fs::open(rt, path)?;
+    let mut space = [0u8; SPACE];
+    let n = words::read_full(&mut input, &mut space)?;
+    questions(rt, &space[..n])
 }
 
-fn main() {
-    file(b"records");
-    file(b"bounds");
-    file(b"verdicts");
-    file(b"steps");
+fn main(rt: HostRuntime) -> io::Result<()> {
+    file(&rt, "records")?;
+    file(&rt, "bounds")?;
+    file(&rt, "verdicts")?;
+    file(&rt, "steps")
 }

@@ -1,5 +1,6 @@
 // Questions about a record: its table read and written again, and one field's payload.
 use crate::answers::refused;
+use std::io;
 use table::{Refusal, Table};
 use words::{bytes, text};
 
@@ -9,15 +10,15 @@ const LENT: usize = 2048;
 const FILLED: u8 = 7;
 
 // The payload of field k; the part of a refused question is empty.
-pub fn field(s: &[u8], k: usize) {
+pub fn field(rt: &impl Print, s: &[u8], k: usize) -> io::Result<()> {
     let refusal = record::field_refusal(s, k);
     let part = record::field(s, k);
     if refusal.number == Refusal::NONE {
-        text(b" accepted");
+        text(rt, b" accepted")?;
     } else {
-        refused(refusal);
+        refused(rt, refusal)?;
     }
-    bytes(part);
+    bytes(rt, part)
 }
 
 // Has the writer put the record s to the front of `out`, and left the bytes past it as they were in `before`?
@@ -28,45 +29,45 @@ fn is_written(s: &[u8], n: usize, out: &[u8], before: &[u8]) -> bool {
     if before.len() < n {
         return false;
     }
-    if !check::same(s, &out[0..n]) {
+    if s != &out[0..n] {
         return false;
     }
-    check::same(&out[n..], &before[n..])
+    &out[n..] == &before[n..]
 }
 
-fn write(s: &[u8], table: Table, out: &mut [u8], before: &[u8]) {
+fn write(rt: &impl Print, s: &[u8], table: Table, out: &mut [u8], before: &[u8]) -> io::Result<()> {
     let answer = writer::write(table, out);
     let refusal = answer.refusal;
     if refusal.number != Refusal::NONE {
-        refused(refusal);
-        return;
+        return refused(rt, refusal);
     }
-    text(b" accepted");
+    text(rt, b" accepted")?;
     if is_written(s, answer.length, out, before) {
-        text(b" written");
+        text(rt, b" written")?;
     }
+    Ok(())
 }
 
 // Writes into the first `room` bytes of those lent.
-pub fn lend(s: &[u8], table: Table, room: usize) {
+pub fn lend(rt: &impl Print, s: &[u8], table: Table, room: usize) -> io::Result<()> {
     let mut out = [FILLED; LENT];
     let before = [FILLED; LENT];
     if LENT < room {
-        return;
+        return Ok(());
     }
-    write(s, table, &mut out[0..room], &before[0..room]);
+    write(rt, s, table, &mut out[0..room], &before[0..room])
 }
 
 // Writes the table with another number of locations.
-pub fn with_locations(s: &[u8], table: Table, n: usize) {
+pub fn with_locations(rt: &impl Print, s: &[u8], table: Table, n: usize) -> io::Result<()> {
     let mut changed = table;
     changed.locations = n;
-    lend(s, changed, LENT);
+    lend(rt, s, changed, LENT)
 }
 
 // Writes the table with another number of tasks.
-pub fn with_tasks(s: &[u8], table: Table, n: usize) {
+pub fn with_tasks(rt: &impl Print, s: &[u8], table: Table, n: usize) -> io::Result<()> {
     let mut changed = table;
     changed.tasks = n;
-    lend(s, changed, LENT);
+    lend(rt, s, changed, LENT)
 }

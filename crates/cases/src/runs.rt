@@ -9,6 +9,7 @@ use crate::numbers::{number16, number32};
 use crate::steps;
 use job::Job;
 use runner::{State, StepAnswer};
+use std::io;
 use table::{Refusal, Table};
 
 const STEP: usize = 20;
@@ -64,32 +65,31 @@ fn step(table: Table, state: State, s: &[u8], at: usize) -> StepAnswer
 }
 
 // The steps from a state on; a refused step hands back the state, and the next one follows.
-fn run(table: Table, start: State, s: &[u8]) {
+fn run(rt: &impl Print, table: Table, start: State, s: &[u8]) -> io::Result<()> {
     let mut state = start;
     let mut at: usize = 0;
     while at + STEP <= s.len() {
         let answer = step(table, state, s, at);
-        steps::step(answer);
+        steps::step(rt, answer)?;
         state = answer.state;
         at += STEP;
     }
-    steps::state(state);
+    steps::state(rt, state)
 }
 
-pub fn from_fresh(table: Table, steps: &[u8]) {
+pub fn from_fresh(rt: &impl Print, table: Table, steps: &[u8]) -> io::Result<()> {
     let answer = State::fresh(table);
     let refusal = answer.refusal;
     if refusal.number != Refusal::NONE {
-        refused(refusal);
-        return;
+        return refused(rt, refusal);
     }
     let state = answer.state;
-    run(table, state, steps);
+    run(rt, table, state, steps)
 }
 
-pub fn from_given(table: Table, s: &[u8]) {
+pub fn from_given(rt: &impl Print, table: Table, s: &[u8]) -> io::Result<()> {
     if s.len() < STATE {
-        return;
+        return Ok(());
     }
-    run(table, state(s), &s[STATE..]);
+    run(rt, table, state(s), &s[STATE..])
 }

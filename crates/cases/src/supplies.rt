@@ -1,5 +1,6 @@
 // Questions about the supply of a queue: cycle and filling.
 use crate::answers::refused;
+use std::io;
 use table::{Refusal, Table};
 use words::{entries, number};
 
@@ -11,34 +12,33 @@ const FILLED: u32 = 7;
 // Two before the end of the longest filling.
 pub const LATE: usize = 2046;
 
-pub fn cycle(table: Table, queue: u32) {
+pub fn cycle(rt: &impl Print, table: Table, queue: u32) -> io::Result<()> {
     let answer = bounds::cycle(table, queue);
     let refusal = answer.refusal;
     if refusal.number != Refusal::NONE {
-        refused(refusal);
-        return;
+        return refused(rt, refusal);
     }
-    number(answer.least as u64);
-    number(answer.most as u64);
+    number(rt, answer.least as u64)?;
+    number(rt, answer.most as u64)
 }
 
 // Fills the lent entries, and prints those from `from` on.
-fn filled(table: Table, queue: u32, out: &mut [u32], from: usize) {
+fn filled(rt: &impl Print, table: Table, queue: u32, out: &mut [u32], from: usize) -> io::Result<()> {
     let refusal = bounds::fill(table, queue, out);
     if refusal.number != Refusal::NONE {
-        refused(refusal);
+        refused(rt, refusal)?;
     }
     if out.len() < from {
-        return;
+        return Ok(());
     }
-    entries(&out[from..]);
+    entries(rt, &out[from..])
 }
 
 // The filling in the first `room` entries of those lent, printed from `from` on: beside a refusal too, where nothing is written.
-pub fn fill(table: Table, queue: u32, room: usize, from: usize) {
+pub fn fill(rt: &impl Print, table: Table, queue: u32, room: usize, from: usize) -> io::Result<()> {
     let mut out = [FILLED; LENT];
     if LENT < room {
-        return;
+        return Ok(());
     }
-    filled(table, queue, &mut out[0..room], from);
+    filled(rt, table, queue, &mut out[0..room], from)
 }

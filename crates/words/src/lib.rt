@@ -1,57 +1,64 @@
-// The words that programs print: decimal numbers, each after a blank, a refusal and a verdict (docs/RULES.md, The listing).
+// The words that programs print: decimal numbers, each after a blank, a refusal and a verdict (docs/RULES.md, The listing); and what
+// they read.
 #![tactic(auto)]
 
-use libc::STDOUT_FILENO;
+ghost use Rattle.std.specs.Prelude.{◌≤◌, length, IfOk};
+
 use search::VerdictAnswer;
+use std::io;
+use std::io::Read;
 use table::Refusal;
 
-pub fn text(s: &[u8]) {
-    io::write_all(STDOUT_FILENO, s);
-}
-
-pub fn number(n: u64) {
-    text(b" ");
-    io::print_decimal(STDOUT_FILENO, n);
-}
-
-fn byte(x: u8) {
-    number(x as u64);
-}
-
-pub fn bytes(s: &[u8]) {
-    let mut i: usize = 0;
-    while i < s.len() {
-        byte(s[i]);
-        i += 1;
+// Reads until the space is full or the input ends, and returns how many bytes it put at the front.
+pub fn read_full<R: Read>(input: &mut R, space: &mut [u8]) -> io::Result<usize>
+    ensures { IfOk result (λ n. n ≤ length space.new) }
+{
+    let mut done: usize = 0;
+    while done < space.len() {
+        let n = input.read(&mut space[done..])?;
+        if n == 0 {
+            break;
+        }
+        done += n;
     }
+    Ok(done)
 }
 
-fn entry(x: u32) {
-    number(x as u64);
+pub fn text(rt: &impl Print, s: &[u8]) -> io::Result<()> {
+    rt.write_all(s)
 }
 
-pub fn entries(s: &[u32]) {
-    let mut i: usize = 0;
-    while i < s.len() {
-        entry(s[i]);
-        i += 1;
+pub fn number(rt: &impl Print, n: u64) -> io::Result<()> {
+    print!(rt; " {n}")
+}
+
+pub fn bytes(rt: &impl Print, s: &[u8]) -> io::Result<()> {
+    for x in s {
+        number(rt, u64::from(*x))?;
     }
+    Ok(())
 }
 
-pub fn refused(refusal: Refusal) {
-    text(b"refused");
-    number(refusal.number as u64);
-    number(refusal.place as u64);
+pub fn entries(rt: &impl Print, s: &[u32]) -> io::Result<()> {
+    for x in s {
+        number(rt, u64::from(*x))?;
+    }
+    Ok(())
+}
+
+pub fn refused(rt: &impl Print, refusal: Refusal) -> io::Result<()> {
+    text(rt, b"refused")?;
+    number(rt, refusal.number as u64)?;
+    number(rt, refusal.place as u64)
 }
 
 // A verdict that is not refused.
-pub fn verdict(answer: VerdictAnswer) {
+pub fn verdict(rt: &impl Print, answer: VerdictAnswer) -> io::Result<()> {
     if answer.meets {
-        text(b"meets");
-        return;
+        return text(rt, b"meets");
     }
-    text(b"short");
-    number(answer.window as u64);
-    number(answer.demand as u64);
-    number(answer.supply as u64);
+    text(rt, b"short")?;
+    number(rt, answer.window as u64)?;
+    number(rt, answer.demand as u64)?;
+    number(rt, answer.supply as u64)
 }

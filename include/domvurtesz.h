@@ -23,7 +23,7 @@
  *
  * Padding between members means nothing. Compare members, not the bytes of two structs.
  *
- * Link with target/staticlib/libdomvurtesz.a, which `rt staticlib domvurtesz` makes for x86-64 Linux. It calls memcpy
+ * Link with target/staticlib/libdomvurtesz.a, which `tools/static-library` makes for x86-64 Linux. It calls memcpy
  * and memset, and nothing else.
  */
 #ifndef DOMVURTESZ_H

@@ -1,4 +1,4 @@
-//! Links the static library that `rt staticlib domvurtesz` writes.
+//! Links the static library that `tools/static-library` writes.
 
 use std::path::Path;
 
@@ -9,6 +9,6 @@ fn main() {
     println!("cargo:rustc-link-lib=static=domvurtesz");
     println!("cargo:rerun-if-changed={}", library.display());
     if !library.exists() {
-        println!("cargo:warning=there is no {}; `rt staticlib domvurtesz` writes it", library.display());
+        println!("cargo:warning=there is no {}; `tools/static-library` writes it", library.display());
     }
 }

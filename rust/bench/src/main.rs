@@ -1,5 +1,5 @@
 //! Prints the library's times on the largest tables beside those of a plain Rust program of the same means,
-//! and the stack that its questions take. Run `rt staticlib domvurtesz` first.
+//! and the stack that its questions take. Run `tools/static-library` first.
 
 mod clock;
 mod corners;

@@ -1,5 +1,5 @@
 //! Compares the proved library with the lister, which shares no code with it, and holds the runner to the
-//! verdict's promise by search. Run `rt staticlib domvurtesz` first.
+//! verdict's promise by search. Run `tools/static-library` first.
 
 mod both;
 mod conditions;

@@ -32,16 +32,24 @@ pub fn number(rt: &impl Print, n: u64) -> io::Result<()> {
     print!(rt; " {n}")
 }
 
+fn byte(rt: &impl Print, x: u8) -> io::Result<()> {
+    number(rt, x as u64)
+}
+
 pub fn bytes(rt: &impl Print, s: &[u8]) -> io::Result<()> {
     for x in s {
-        number(rt, u64::from(*x))?;
+        byte(rt, *x)?;
     }
     Ok(())
 }
 
+fn entry(rt: &impl Print, x: u32) -> io::Result<()> {
+    number(rt, x as u64)
+}
+
 pub fn entries(rt: &impl Print, s: &[u32]) -> io::Result<()> {
     for x in s {
-        number(rt, u64::from(*x))?;
+        entry(rt, *x)?;
     }
     Ok(())
 }

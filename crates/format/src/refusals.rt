@@ -41,6 +41,7 @@ fn is_task(s: &[u8], at: usize, locations: usize) -> bool
 }
 
 // Is there a whole header? 0, or the number of refusal.
+#[tactic(auto, unfolding(crate::specs::Tests::header_number))]
 pub fn header_number(s: &[u8]) -> u8
     ensures { result ≡ header_number s.now }
 {
@@ -70,6 +71,7 @@ fn one_more(count: usize, most: usize, left: usize, whole: usize) -> u8
 }
 
 // Is there a whole location or task at `at`, after so many of each? 0, or the number of refusal.
+#[tactic(auto, unfolding(crate::specs::Tests::field_number))]
 pub fn field_number(s: &[u8], at: usize, locations: usize, tasks: usize) -> u8
     requires { at ≤ length s.now }
     ensures { result ≡ field_number s.now at locations tasks }

@@ -32,8 +32,8 @@ module _ (s : List ℕ) (at tag len : ℕ) (p : List ℕ) (here : drop at s ≡ 
   tag_is : get_or s at 0 ≡ tag
   tag_is = ap (λ n. get_or s n 0) (sym (add-zero at)) ∙ (sym (get_or-drop at s 0 0) ∙ ap (λ (r : List ℕ). get_or r 0 0) here)
 
-  is_field : T (is_field s at tag len)
-  is_field =
+  field_there : T (is_field s at tag len)
+  field_there =
       and_both (eqb (get_or s at 0) tag) (eqb (number16 (drop (at + 1) s)) len)
       (eqb_of (get_or s at 0) tag tag_is)
       (eqb_of (number16 (drop (at + 1) s)) len (ap number16 (sym (drop-drop 1 at s) ∙ ap (drop 1) here) ∙ omega arith))
@@ -120,7 +120,7 @@ module _ (t : Table) (w : InWidth t) (locations-fit : t.locations ≤ 128) (task
   next_location k v i r h l z =
       let s = record_of t in
       let here : drop (offset_after v i) s ≡ location_field (location_at t v) ++ drop (location_offset (suc v)) s = ap (λ n. drop n s) (first_place z) ∙ location_at_law t v l in
-      let y = and_both (is_field s (offset_after v i) 2 9) (eqb r.tasks 0) (is_field s (offset_after v i) 2 9 _ here) (eqb_of r.tasks 0 (h.same.tasks ∙ z)) in
+      let y = and_both (is_field s (offset_after v i) 2 9) (eqb r.tasks 0) (field_there s (offset_after v i) 2 9 _ here) (eqb_of r.tasks 0 (h.same.tasks ∙ z)) in
       let n = location_number s (offset_after v i) r.locations r.tasks y (omega (arith, h.same.locations)) (omega (arith, length_record t)) in
       let e = ap location_of (payload_there s (offset_after v i) 2 9 _ here) ∙ location_back (location_at t v) (drop (location_offset (suc v)) s) (w.location v l) in
       let u = with_location r (location_of (drop (offset_after v i + 3) s)) in (
@@ -142,7 +142,7 @@ module _ (t : Table) (w : InWidth t) (locations-fit : t.locations ≤ 128) (task
       let here : drop (offset_after v i) s ≡ task_field (task_at t i) ++ drop (task_offset t (suc i)) s = ap (λ n. drop (offset_after n i) s) z ∙ task_at_law t i l in
       let tag = tag_is s (offset_after v i) 3 7 _ here in
       let x = no_location_law s (offset_after v i) r.tasks tag in
-      let y = and_both (is_field s (offset_after v i) 3 7) (ltb 0 r.locations) (is_field s (offset_after v i) 3 7 _ here) (lt→ltb 0 r.locations (omega (arith, h.same.locations))) in
+      let y = and_both (is_field s (offset_after v i) 3 7) (ltb 0 r.locations) (field_there s (offset_after v i) 3 7 _ here) (lt→ltb 0 r.locations (omega (arith, h.same.locations))) in
       let n = task_number s (offset_after v i) r.locations r.tasks x y (omega (arith, h.same.tasks)) (omega (arith, length_record t)) in
       let e = ap task_of (payload_there s (offset_after v i) 3 7 _ here) ∙ task_back (task_at t i) (drop (task_offset t (suc i)) s) (w.task i l) in
       let u = with_task r (task_of (drop (offset_after v i + 3) s)) in (
@@ -200,7 +200,7 @@ module _ (t : Table) (w : InWidth t) (locations-fit : t.locations ≤ 128) (task
   is_read : 1 ≤ t.locations → IsRead t (fields_of (record_of t))
   is_read some =
       let s = record_of t in
-      let n = header_number_law s (is_field s 0 1 4 _ (record_rows t)) (omega (arith, length_record t)) in
+      let n = header_number_law s (field_there s 0 1 4 _ (record_rows t)) (omega (arith, length_record t)) in
       read_along t _ _ (header_fine s n) (reads_on most_fields 0 0 (header_of (drop 3 s)) some (omega arith) (omega arith) (omega arith) (λ l. refl) header_held)
 
 pub written_reads : (t : Table) → InWidth t → 1 ≤ t.locations → t.locations ≤ 128 → t.tasks ≤ 32

@@ -7,7 +7,6 @@ use Prim.Native.Nat.{ℕ, suc, ◌+◌, ◌<◌}
 use native.Mathlib.Omega.{arith}
 use lib.Dec.{T, eqb→eq, ltb, lt→ltb}
 use Rattle.laws.specs.Bits.{in_set}
-use Rattle.laws.specs.Found.{at}
 use Rattle.laws.proofs.Test.{and_both}
 use Rattle.laws.proofs.Cases.{is_true}
 use Rattle.theory.specs.Grants.{Stream}

@@ -15,36 +15,36 @@ use Rattle.judge.proofs.judge.Goals as goal
 
 -- ---- what each rule hands on to
 
-abbrev from-task : Table → Refusal
-from-task t = refuse 9 (task_place t) (lowest_task t breaks_task) fine
+abbrev from_task : Table → Refusal
+from_task t = refuse 9 (task_place t) (lowest_task t breaks_task) fine
 
-abbrev from-value : Table → Refusal
-from-value t = refuse 4 location_place (lowest_location t breaks_value) (judged_tree t (from-task t))
+abbrev from_value : Table → Refusal
+from_value t = refuse 4 location_place (lowest_location t breaks_value) (judged_tree t (from_task t))
 
-abbrev from-header : Table → Refusal
-from-header t = refuse 4 (λ v. 0) (found_if (breaks_header t)) (from-value t)
+abbrev from_header : Table → Refusal
+from_header t = refuse 4 (λ v. 0) (found_if (breaks_header t)) (from_value t)
 
 -- ---- COUNT is kept
 
 module _ (t : Table) (counted : breaks_count t ≡ false) where
-  after-count : from-header t ≡ judged t
+  after_count : from_header t ≡ judged t
   unfolding judged
-  after-count = if_kept 3 (breaks_count t) (from-header t) counted
+  after_count = if_kept 3 (breaks_count t) (from_header t) counted
 
   -- ---- VALUE of the header is kept
 
   module _ (headed : breaks_header t ≡ false) where
-    after-header : from-value t ≡ judged t
-    after-header = if_kept 4 (breaks_header t) (from-value t) headed ∙ after-count
+    after_header : from_value t ≡ judged t
+    after_header = if_kept 4 (breaks_header t) (from_value t) headed ∙ after_count
 
     -- ---- VALUE of the locations is kept
 
     module _ (r : Refusal) (e : r ≡ refuse 4 location_place (lowest_location t breaks_value) fine) (z : r.number ≡ 0) where
-      value-kept : lowest_location t breaks_value ≡ nobody
-      value-kept = passed 4 location_place r (lowest_location t breaks_value) (omega arith) e z
+      value_kept : lowest_location t breaks_value ≡ nobody
+      value_kept = passed 4 location_place r (lowest_location t breaks_value) (omega arith) e z
 
-      after-value : judged_tree t (from-task t) ≡ judged t
-      after-value = sym (refuse_nobody 4 location_place (lowest_location t breaks_value) (judged_tree t (from-task t)) value-kept) ∙ after-header
+      after_value : judged_tree t (from_task t) ≡ judged t
+      after_value = sym (refuse_nobody 4 location_place (lowest_location t breaks_value) (judged_tree t (from_task t)) value_kept) ∙ after_header
 
 -- ---- the goals
 
@@ -52,34 +52,34 @@ pub returns-then-breaks_count : goal.returns-then-breaks_count
 unfolding judged
 returns-then-breaks_count c =
     let t = c.args.table in
-    if_refused 3 (breaks_count t) (from-header t) (sym c.breaks_count.ensures ∙ c.if-breaks_count.true)
+    if_refused 3 (breaks_count t) (from_header t) (sym c.breaks_count.ensures ∙ c.if-breaks_count.true)
 
 pub returns-then-breaks_header : goal.returns-then-breaks_header
 returns-then-breaks_header c =
     let t = c.args.table in
-    if_refused 4 (breaks_header t) (from-value t) (sym c.breaks_header.ensures ∙ c.if-breaks_header.true)
-    ∙ after-count t (sym c.breaks_count.ensures ∙ c.if-breaks_count.false)
+    if_refused 4 (breaks_header t) (from_value t) (sym c.breaks_header.ensures ∙ c.if-breaks_header.true)
+    ∙ after_count t (sym c.breaks_count.ensures ∙ c.if-breaks_count.false)
 
 pub returns-then-value-ne-NONE : goal.returns-then-value-ne-NONE
 returns-then-value-ne-NONE c =
     let t = c.args.table in
-    refused 4 location_place c.judge_value-value.result (lowest_location t breaks_value) (judged_tree t (from-task t)) c.judge_value-value.ensures c.if-value-ne-NONE.true
-    ∙ after-header t (sym c.breaks_count.ensures ∙ c.if-breaks_count.false) (sym c.breaks_header.ensures ∙ c.if-breaks_header.false)
+    refused 4 location_place c.judge_value-value.result (lowest_location t breaks_value) (judged_tree t (from_task t)) c.judge_value-value.ensures c.if-value-ne-NONE.true
+    ∙ after_header t (sym c.breaks_count.ensures ∙ c.if-breaks_count.false) (sym c.breaks_header.ensures ∙ c.if-breaks_header.false)
 
 pub judge_tree-tree-requires-clause-by_index : goal.judge_tree-tree-requires-clause-by_index
 judge_tree-tree-requires-clause-by_index c =
     let t = c.args.table in
     let counted = sym c.breaks_count.ensures ∙ c.if-breaks_count.false in
     let headed = sym c.breaks_header.ensures ∙ c.if-breaks_header.false in
-    λ v m. first_nobody (breaks_value t) t.locations v (value-kept t counted headed _ c.judge_value-value.ensures c.if-value-ne-NONE.false) m
+    λ v m. first_nobody (breaks_value t) t.locations v (value_kept t counted headed _ c.judge_value-value.ensures c.if-value-ne-NONE.false) m
 
 pub returns-then-tree-ne-NONE : goal.returns-then-tree-ne-NONE
 returns-then-tree-ne-NONE c =
     let t = c.args.table in
     let counted = sym c.breaks_count.ensures ∙ c.if-breaks_count.false in
     let headed = sym c.breaks_header.ensures ∙ c.if-breaks_header.false in
-    tree_refused t c.judge_tree-tree.result (from-task t) c.judge_tree-tree.ensures c.if-tree-ne-NONE.true
-    ∙ after-value t counted headed _ c.judge_value-value.ensures c.if-value-ne-NONE.false
+    tree_refused t c.judge_tree-tree.result (from_task t) c.judge_tree-tree.ensures c.if-tree-ne-NONE.true
+    ∙ after_value t counted headed _ c.judge_value-value.ensures c.if-value-ne-NONE.false
 
 pub returns : goal.returns
 returns c =
@@ -87,5 +87,5 @@ returns c =
     let counted = sym c.breaks_count.ensures ∙ c.if-breaks_count.false in
     let headed = sym c.breaks_header.ensures ∙ c.if-breaks_header.false in
     c.judge_task.ensures
-    ∙ tree_kept t c.judge_tree-tree.result (from-task t) c.judge_tree-tree.ensures c.if-tree-ne-NONE.false
-    ∙ after-value t counted headed _ c.judge_value-value.ensures c.if-value-ne-NONE.false
+    ∙ tree_kept t c.judge_tree-tree.result (from_task t) c.judge_tree-tree.ensures c.if-tree-ne-NONE.false
+    ∙ after_value t counted headed _ c.judge_value-value.ensures c.if-value-ne-NONE.false

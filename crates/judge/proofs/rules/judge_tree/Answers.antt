@@ -23,29 +23,29 @@ use Rattle.judge.proofs.rules.judge_tree.Goals as goal
 
 -- ---- what each rule hands on to
 
-abbrev from-period : Table → Refusal
-from-period t = refuse 8 location_place (lowest_location t breaks_period) fine
+abbrev from_period : Table → Refusal
+from_period t = refuse 8 location_place (lowest_location t breaks_period) fine
 
-abbrev from-overlap : Table → Refusal
-from-overlap t = refuse 7 location_place (lowest_location t breaks_overlap) (from-period t)
+abbrev from_overlap : Table → Refusal
+from_overlap t = refuse 7 location_place (lowest_location t breaks_overlap) (from_period t)
 
-abbrev from-gap : Table → Refusal
-from-gap t = refuse 6 location_place (lowest_location t breaks_gap) (from-overlap t)
+abbrev from_gap : Table → Refusal
+from_gap t = refuse 6 location_place (lowest_location t breaks_gap) (from_overlap t)
 
-abbrev from-shape : Table → Refusal
-from-shape t = refuse 5 location_place (lowest_location t breaks_shape) (from-gap t)
+abbrev from_shape : Table → Refusal
+from_shape t = refuse 5 location_place (lowest_location t breaks_shape) (from_gap t)
 
 -- ---- SHAPE is kept
 
 module _ (t : Table) (r : Refusal) (e : r ≡ refuse 5 location_place (lowest_location t breaks_shape) fine) (z : r.number ≡ 0) where
-  shape-kept : lowest_location t breaks_shape ≡ nobody
-  shape-kept = passed 5 location_place r (lowest_location t breaks_shape) (omega arith) e z
+  shape_kept : lowest_location t breaks_shape ≡ nobody
+  shape_kept = passed 5 location_place r (lowest_location t breaks_shape) (omega arith) e z
 
-  after-shape : from-gap t ≡ from-shape t
-  after-shape = sym (refuse_nobody 5 location_place (lowest_location t breaks_shape) (from-gap t) shape-kept)
+  after_shape : from_gap t ≡ from_shape t
+  after_shape = sym (refuse_nobody 5 location_place (lowest_location t breaks_shape) (from_gap t) shape_kept)
 
   falling : (parents : List ℕ) → parents ≡ parent_column t → Falls (entry parents) t.locations
-  falling parents p = falls t parents p (λ v l. first_nobody (breaks_shape t) t.locations v shape-kept l)
+  falling parents p = falls t parents p (λ v l. first_nobody (breaks_shape t) t.locations v shape_kept l)
 
 -- ---- the guards' columns stand
 
@@ -62,23 +62,23 @@ module _ (t : Table) (parents lows highs : List ℕ) (p : parents ≡ parent_col
   -- ---- GAP is kept
 
   module _ (r : Refusal) (e : r ≡ refuse 6 location_place (first (gap_in guards) 0 t.locations) fine) (z : r.number ≡ 0) where
-    gap-kept : first (gap_in guards) 0 t.locations ≡ nobody
-    gap-kept = passed 6 location_place r (first (gap_in guards) 0 t.locations) (omega arith) e z
+    gap_kept : first (gap_in guards) 0 t.locations ≡ nobody
+    gap_kept = passed 6 location_place r (first (gap_in guards) 0 t.locations) (omega arith) e z
 
-    no-gap : (v : ℕ) → v < t.locations → T (not (gap_in guards v))
-    no-gap v m = first_nobody (gap_in guards) t.locations v gap-kept m
+    no_gap : (v : ℕ) → v < t.locations → T (not (gap_in guards v))
+    no_gap v m = first_nobody (gap_in guards) t.locations v gap_kept m
 
-    after-gap : from-gap t ≡ from-shape t → from-overlap t ≡ from-shape t
-    after-gap d = sym (refuse_nobody 6 location_place (lowest_location t breaks_gap) (from-overlap t) (sym gaps ∙ gap-kept)) ∙ d
+    after_gap : from_gap t ≡ from_shape t → from_overlap t ≡ from_shape t
+    after_gap d = sym (refuse_nobody 6 location_place (lowest_location t breaks_gap) (from_overlap t) (sym gaps ∙ gap_kept)) ∙ d
 
   -- ---- OVERLAP is kept
 
   module _ (r : Refusal) (e : r ≡ refuse 7 location_place (first (overlap_in guards) 0 t.locations) fine) (z : r.number ≡ 0) where
-    overlap-kept : lowest_location t breaks_overlap ≡ nobody
-    overlap-kept = sym overlaps ∙ passed 7 location_place r (first (overlap_in guards) 0 t.locations) (omega arith) e z
+    overlap_kept : lowest_location t breaks_overlap ≡ nobody
+    overlap_kept = sym overlaps ∙ passed 7 location_place r (first (overlap_in guards) 0 t.locations) (omega arith) e z
 
-    after-overlap : from-overlap t ≡ from-shape t → from-period t ≡ from-shape t
-    after-overlap d = sym (refuse_nobody 7 location_place (lowest_location t breaks_overlap) (from-period t) overlap-kept) ∙ d
+    after_overlap : from_overlap t ≡ from_shape t → from_period t ≡ from_shape t
+    after_overlap d = sym (refuse_nobody 7 location_place (lowest_location t breaks_overlap) (from_period t) overlap_kept) ∙ d
 
 -- ---- the goals
 
@@ -90,9 +90,9 @@ pub returns-then-gap-ne-NONE : goal.returns-then-gap-ne-NONE
 returns-then-gap-ne-NONE c =
     let t = c.args.table in
     let g = guards t c.parents-parents.result c.lows-lows.result c.highs-highs.result c.parents-parents.ensures c.lows-lows.ensures c.highs-highs.ensures in
-    refused 6 location_place c.judge_gap-gap.result (first (gap_in g) 0 t.locations) (from-overlap t) c.judge_gap-gap.ensures c.if-gap-ne-NONE.true
-    ∙ ap (λ (o : Found). refuse 6 location_place o (from-overlap t)) (gaps t _ _ _ c.parents-parents.ensures c.lows-lows.ensures c.highs-highs.ensures)
-    ∙ after-shape t _ c.judge_shape-shape.ensures c.if-shape-ne-NONE.false
+    refused 6 location_place c.judge_gap-gap.result (first (gap_in g) 0 t.locations) (from_overlap t) c.judge_gap-gap.ensures c.if-gap-ne-NONE.true
+    ∙ ap (λ (o : Found). refuse 6 location_place o (from_overlap t)) (gaps t _ _ _ c.parents-parents.ensures c.lows-lows.ensures c.highs-highs.ensures)
+    ∙ after_shape t _ c.judge_shape-shape.ensures c.if-shape-ne-NONE.false
 
 pub judge_overlap-overlap-requires-clause-some_value : goal.judge_overlap-overlap-requires-clause-some_value
 judge_overlap-overlap-requires-clause-some_value c =
@@ -100,7 +100,7 @@ judge_overlap-overlap-requires-clause-some_value c =
 
 pub judge_overlap-overlap-requires-clause-by_index : goal.judge_overlap-overlap-requires-clause-by_index
 judge_overlap-overlap-requires-clause-by_index c =
-    no-gap c.args.table _ _ _ c.parents-parents.ensures c.lows-lows.ensures c.highs-highs.ensures _ c.judge_gap-gap.ensures c.if-gap-ne-NONE.false
+    no_gap c.args.table _ _ _ c.parents-parents.ensures c.lows-lows.ensures c.highs-highs.ensures _ c.judge_gap-gap.ensures c.if-gap-ne-NONE.false
 
 pub returns-then-overlap-ne-NONE : goal.returns-then-overlap-ne-NONE
 returns-then-overlap-ne-NONE c =
@@ -109,9 +109,9 @@ returns-then-overlap-ne-NONE c =
     let l = c.lows-lows.ensures in
     let h = c.highs-highs.ensures in
     let g = guards t _ _ _ p l h in
-    refused 7 location_place c.judge_overlap-overlap.result (first (overlap_in g) 0 t.locations) (from-period t) c.judge_overlap-overlap.ensures c.if-overlap-ne-NONE.true
-    ∙ ap (λ (o : Found). refuse 7 location_place o (from-period t)) (overlaps t _ _ _ p l h)
-    ∙ after-gap t _ _ _ p l h _ c.judge_gap-gap.ensures c.if-gap-ne-NONE.false (after-shape t _ c.judge_shape-shape.ensures c.if-shape-ne-NONE.false)
+    refused 7 location_place c.judge_overlap-overlap.result (first (overlap_in g) 0 t.locations) (from_period t) c.judge_overlap-overlap.ensures c.if-overlap-ne-NONE.true
+    ∙ ap (λ (o : Found). refuse 7 location_place o (from_period t)) (overlaps t _ _ _ p l h)
+    ∙ after_gap t _ _ _ p l h _ c.judge_gap-gap.ensures c.if-gap-ne-NONE.false (after_shape t _ c.judge_shape-shape.ensures c.if-shape-ne-NONE.false)
 
 pub judge_period-requires : goal.judge_period-requires
 judge_period-requires c =
@@ -123,8 +123,8 @@ returns c =
     let p = c.parents-parents.ensures in
     let l = c.lows-lows.ensures in
     let h = c.highs-highs.ensures in
-    let shaped = after-shape t _ c.judge_shape-shape.ensures c.if-shape-ne-NONE.false in
-    let full = after-gap t _ _ _ p l h _ c.judge_gap-gap.ensures c.if-gap-ne-NONE.false shaped in
+    let shaped = after_shape t _ c.judge_shape-shape.ensures c.if-shape-ne-NONE.false in
+    let full = after_gap t _ _ _ p l h _ c.judge_gap-gap.ensures c.if-gap-ne-NONE.false shaped in
     c.judge_period.ensures
     ∙ ap (λ (x : Found). refuse 8 location_place x fine) (period_agrees t _ p _ c.ticks-ticks.ensures)
-    ∙ after-overlap t _ _ _ p l h _ c.judge_overlap-overlap.ensures c.if-overlap-ne-NONE.false full
+    ∙ after_overlap t _ _ _ p l h _ c.judge_overlap-overlap.ensures c.if-overlap-ne-NONE.false full

@@ -7,9 +7,8 @@
 
 ghost use Rattle.std.specs.Prelude.{◌+◌, ◌<◌, ◌≤◌, length, IfOk};
 
-use std::io;
 use std::rt::Files;
-use std::fs;
+use std::{fs, io};
 use table::{Refusal, Table, paths};
 use words::text;
 
@@ -93,7 +92,13 @@ fn asked_at(s: &[u8], at: usize) -> Asked
 }
 
 // A question about a table that was read from the record s; the letters are those of rust/cases/src/question.rs.
-fn ask_table(rt: &impl Print, table: Table, asked: Asked, steps: &[u8], s: &[u8]) -> io::Result<()> {
+fn ask_table(
+    rt: &impl Print,
+    table: Table,
+    asked: Asked,
+    steps: &[u8],
+    s: &[u8],
+) -> io::Result<()> {
     let first = asked.first;
     let second = asked.second;
     let kind = asked.kind;

@@ -23,7 +23,13 @@ pub fn cycle(rt: &impl Print, table: Table, queue: u32) -> io::Result<()> {
 }
 
 // Fills the lent entries, and prints those from `from` on.
-fn filled(rt: &impl Print, table: Table, queue: u32, out: &mut [u32], from: usize) -> io::Result<()> {
+fn filled(
+    rt: &impl Print,
+    table: Table,
+    queue: u32,
+    out: &mut [u32],
+    from: usize,
+) -> io::Result<()> {
     let refusal = bounds::fill(table, queue, out);
     if refusal.number != Refusal::NONE {
         refused(rt, refusal)?;

@@ -1,4 +1,4 @@
--- Owning a table tells that its numbers are in their types' ranges: a need has it as `c.good`, a call's result as `.ok`. Assumes nothing.
+-- Owning a table tells that its numbers are in their types' ranges: a goal has it as `c.well_formed`, for a call's result as `c.type_inv`. Assumes nothing.
 use Prim.Native.Nat.{ℕ, zero, suc}
 use mathlib.Core.List.{List, [], ◌∷◌}
 use lib.ListN.{get_or}

@@ -13,7 +13,7 @@ use table::{Refusal, Table, paths};
 use words::text;
 
 mod answers; // answers.rt: ticks, refusals and verdicts as words
-mod numbers; // numbers.rt: the numbers of the data
+mod big_endian; // big_endian.rt: the numbers of the data
 mod records; // records.rt: reading, writing and fields
 mod refusals; // refusals.rt: every question about a table that is not well formed
 mod runs; // runs.rt: steps of the runner
@@ -60,8 +60,8 @@ fn parts_at(s: &[u8], at: usize) -> Parts
         return cut;
     }
     let steps = name + paths::number(s[at]);
-    let bytes = steps + numbers::number16(s, at + 10) as usize;
-    let end = bytes + numbers::number16(s, at + 12) as usize;
+    let bytes = steps + big_endian::number16(s, at + 10) as usize;
+    let end = bytes + big_endian::number16(s, at + 12) as usize;
     if n < end {
         return cut;
     }
@@ -86,8 +86,8 @@ fn asked_at(s: &[u8], at: usize) -> Asked
     }
     Asked {
         kind: s[at + 1],
-        first: numbers::number32(s, at + 2),
-        second: numbers::number32(s, at + 6),
+        first: big_endian::number32(s, at + 2),
+        second: big_endian::number32(s, at + 6),
     }
 }
 

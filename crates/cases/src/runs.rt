@@ -5,7 +5,7 @@
 ghost use Rattle.std.specs.Prelude.{◌+◌, ◌≤◌, length};
 
 use crate::answers::refused;
-use crate::numbers::{number16, number32};
+use crate::big_endian::{number16, number32};
 use crate::steps;
 use job::Job;
 use runner::{State, StepAnswer};

@@ -9,7 +9,7 @@
  * of several that apply, the first in the list is given.
  *
  * Memory. Tables and states go by value. Where a function takes a pointer, the number of elements follows it (but for
- * the eight values of a step). The pointer is valid and aligned for so many elements while the call lasts, and not
+ * the eight values of a step). The pointer is valid and aligned for that many elements while the call lasts, and not
  * NULL, also for 0 elements. Meanwhile no other thread writes to these elements, nor reads them where they are not
  * const. No pointer is kept, and no call takes two, so nothing can overlap.
  *

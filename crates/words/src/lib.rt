@@ -2,7 +2,8 @@
 // they read.
 #![tactic(auto)]
 
-ghost use Rattle.std.specs.Prelude.{◌≤◌, length, IfOk};
+ghost use Rattle.std.specs.Prelude.{◌<◌, ◌≤◌, length, take, IfOk};
+ghost use Rattle.std.specs.Io.KnownBytes.{Consumes, IsAtEnd};
 
 use search::VerdictAnswer;
 use std::io;
@@ -11,13 +12,15 @@ use table::Refusal;
 
 // Reads until the space is full or the input ends, and returns how many bytes it put at the front.
 pub fn read_full<R: Read>(input: &mut R, space: &mut [u8]) -> io::Result<usize>
-    ensures { IfOk result (λ n. n ≤ length space.new) }
+    ensures within { IfOk result (λ n. n ≤ length space.new) }
+    ensures front { IfOk result (λ n. Consumes (R.remaining input.old) (R.remaining input.new) (take n space.new)) }
+    ensures whole { IfOk result (λ n. n < length space.new → IsAtEnd (R.remaining input.new)) }
 {
     let mut done: usize = 0;
     while done < space.len() {
         let n = input.read(&mut space[done..])?;
         if n == 0 {
-            break;
+            return Ok(done);
         }
         done += n;
     }

@@ -1,9 +1,13 @@
--- `words::read_full` ends: each read that gives something leaves less room.
-use Rattle.std.proofs.Common.{length, ◌-◌, ◌≤◌, ◌≡◌}
+-- `words::read_full` meets its contract: what lies at the front is what the input lost. It ends, since each read that gives something
+-- leaves less room. Assumes nothing.
+use Rattle.std.proofs.Common.{◌≡◌, ◌-◌, ◌≤◌, length, take}
+use Rattle.std.specs.Io.KnownBytes.{Consumes}
 use Rattle.words.proofs.read_full.Given as goal
 
 abbrev pub invariant-loop-done : goal.invariant-loop-done
-invariant-loop-done g l = (l.done ≤ length l.space) × (length l.space ≡ length l.initial.space)
+invariant-loop-done g l =
+    (length l.space ≡ length l.initial.space) × (l.done ≤ length l.space)
+    × Consumes (g.R.Read.remaining l.initial.input) (g.R.Read.remaining l.input) (take l.done l.space)
 
 abbrev pub decreases-loop-done : goal.decreases-loop-done
 decreases-loop-done g l = length l.initial.space - l.done

@@ -1,6 +1,6 @@
 -- What `least`, `most`, `cycle` and `fill` answer, and what `fill` leaves in the lent slice, is settled by their contracts: two outcomes that a
 -- contract allows are the same. Assumes nothing.
-use mathlib.Core.Path.{◌≡◌, sym, subst, ◌∙◌}
+use mathlib.Core.Path.{◌≡◌, sym, ap, subst, ◌∙◌}
 use mathlib.Core.Logic.{inl, inr}
 use mathlib.Core.List.{List}
 use Prim.Native.Nat.{ℕ, ◌*◌}
@@ -16,6 +16,12 @@ use Rattle.table.specs.declared.Refusal.{Refusal}
 use Rattle.table.specs.Table.{tree_of}
 use Rattle.bounds.specs.declared.TicksAnswer.{TicksAnswer}
 use Rattle.bounds.specs.declared.CycleAnswer.{CycleAnswer}
+use Rattle.bounds.specs.declared.CycleTicks.{CycleTicks}
+use Rattle.bounds.specs.Answered.{ticks_answered, cycle_answered}
+use Rattle.table.specs.declared.refused.Refused.{Refused}
+use Rattle.table.specs.Reasons.{outcome}
+use Rattle.table.proofs.Reasons.{not_fine, as_refusal_same, outcome_tells}
+use Rattle.std.proofs.Common.{Result, Ok, Err}
 use Rattle.bounds.specs.Questions.{queue_refusal, Answer, CycleAnswers, Fills}
 use Rattle.bounds.proofs.Refused.{Passes, passes_or}
 use Rattle.bounds.proofs.least.Reads as least-reads
@@ -30,11 +36,21 @@ answer_same r A unique a b x y =
     let f : a.ticks ≡ b.ticks = passes_or r (a.ticks ≡ b.ticks) (λ p. unique a.ticks b.ticks (x.says p) (y.says p)) (λ n. x.silent n ∙ sym (y.silent n)) in
     λ i. record { refusal = e i; ticks = f i }
 
+-- what C is given tells the answer
+ticks_tell : (x y : Result ℕ Refused) → ticks_answered x ≡ ticks_answered y → x ≡ y
+ticks_tell (Ok m) (Ok n) e = ap (λ (a : TicksAnswer). Ok a.ticks) e
+ticks_tell (Ok m) (Err s) e = absurd (not_fine s (sym (ap (λ (a : TicksAnswer). a.refusal) e)))
+ticks_tell (Err r) (Ok n) e = absurd (not_fine r (ap (λ (a : TicksAnswer). a.refusal) e))
+ticks_tell (Err r) (Err s) e = ap Err (as_refusal_same r s (ap (λ (a : TicksAnswer). a.refusal) e))
+
+pub result_same : (r : Refusal) (A : ℕ → Type 0) → ((m n : ℕ) → A m → A n → m ≡ n) → (x y : Result ℕ Refused) → Answer r A (ticks_answered x) → Answer r A (ticks_answered y) → x ≡ y
+result_same r A unique x y a b = ticks_tell x y (answer_same r A unique (ticks_answered x) (ticks_answered y) a b)
+
 pub least_same : (κs : _) (a : _) (r r' : _) (x x' : _) → least-reads.Post κs a r x → least-reads.Post κs a r' x' → r ≡ r'
-least_same κs a r r' x x' p q = answer_same _ _ (λ m n l k. least_unique _ l k) r r' p q
+least_same κs a r r' x x' p q = result_same _ _ (λ m n l k. least_unique _ l k) r r' p q
 
 pub most_same : (κs : _) (a : _) (r r' : _) (x x' : _) → most-reads.Post κs a r x → most-reads.Post κs a r' x' → r ≡ r'
-most_same κs a r r' x x' p q = answer_same _ _ (λ m n l k. most_unique _ l k) r r' p q
+most_same κs a r r' x x' p q = result_same _ _ (λ m n l k. most_unique _ l k) r r' p q
 
 -- ---- the cycle
 
@@ -47,8 +63,14 @@ module _ (t : Table) (q : ℕ) (a b : CycleAnswer) where
       (λ n. ((x.silent n).0 ∙ sym (y.silent n).0, (x.silent n).1 ∙ sym (y.silent n).1)) in
       λ i. record { refusal = e i; least = l i; most = m i }
 
+cycle_tell : (x y : Result CycleTicks Refused) → cycle_answered x ≡ cycle_answered y → x ≡ y
+cycle_tell (Ok m) (Ok n) e = ap (λ (a : CycleAnswer). Ok (record { least = a.least; most = a.most })) e
+cycle_tell (Ok m) (Err s) e = absurd (not_fine s (sym (ap (λ (a : CycleAnswer). a.refusal) e)))
+cycle_tell (Err r) (Ok n) e = absurd (not_fine r (ap (λ (a : CycleAnswer). a.refusal) e))
+cycle_tell (Err r) (Err s) e = ap Err (as_refusal_same r s (ap (λ (a : CycleAnswer). a.refusal) e))
+
 pub cycle_same : (κs : _) (a : _) (r r' : _) (x x' : _) → cycle-reads.Post κs a r x → cycle-reads.Post κs a r' x' → r ≡ r'
-cycle_same κs a r r' x x' p q = cycle_agree _ _ r r' p q
+cycle_same κs a r r' x x' p q = cycle_tell r r' (cycle_agree _ _ (cycle_answered r) (cycle_answered r') p q)
 
 -- ---- the filling
 
@@ -64,5 +86,5 @@ module _ (t : Table) (q : ℕ) (before : List ℕ) (r : Refusal) (out out' : Lis
 
 pub fill_same : (κs : _) (a : _) (r r' : _) (x x' : _) → fill-reads.Post κs a r x → fill-reads.Post κs a r' x' → (r ≡ r') × (x.1.1.0.now ≡ x'.1.1.0.now)
 fill_same κs a r r' x x' p q =
-    let e : r ≡ r' = p.refusal ∙ sym q.refusal in
-    (e, slice_same _ _ _ r' _ _ (subst (Fills _ _ _ _) e p) q)
+    let e : outcome r ≡ outcome r' = p.refusal ∙ sym q.refusal in
+    (outcome_tells r r' e, slice_same _ _ _ (outcome r') _ _ (subst (Fills _ _ _ _) e p) q)

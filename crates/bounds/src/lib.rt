@@ -1,13 +1,16 @@
 // The bounds of a table: least, most, cycle least and most, and the filling (docs/RULES.md, Runs and bounds).
 #![tactic(auto)]
 
+ghost use Rattle.std.specs.Prelude.{◌≡◌};
+ghost use Rattle.table.specs.Reasons.{outcome};
 ghost use Rattle.bounds.specs.Questions.{LeastAnswer, MostAnswer, CycleAnswers, Fills};
+ghost use Rattle.bounds.specs.Answered.{ticks_answered, cycle_answered};
 
-mod flags; // flags.rt: which locations are the queue's
 pub mod questions; // questions.rt: the bounds of a well-formed table
 pub mod refusals; // refusals.rt: which question is refused
 
-use table::{Refusal, Table};
+use questions::Asked;
+use table::{Refusal, Refused, Table};
 
 // A number of ticks, 0 beside a refusal.
 #[repr(C)]
@@ -25,63 +28,98 @@ pub struct CycleAnswer {
     pub most: u32,
 }
 
+// The fewest and the most ticks of a whole cycle.
+#[derive(Clone, Copy, Debug, PartialEq, Eq)]
+pub struct CycleTicks {
+    pub least: u32,
+    pub most: u32,
+}
+
+impl From<Result<u32, Refused>> for TicksAnswer {
+    ghost from_gives = { λ r a. a ≡ ticks_answered r };
+
+    fn from(answer: Result<u32, Refused>) -> TicksAnswer {
+        TicksAnswer {
+            refusal: Refusal::from(answer),
+            ticks: answer.unwrap_or(0),
+        }
+    }
+}
+
+impl From<Result<CycleTicks, Refused>> for CycleAnswer {
+    ghost from_gives = { λ r a. a ≡ cycle_answered r };
+
+    fn from(answer: Result<CycleTicks, Refused>) -> CycleAnswer {
+        let cycle = answer.unwrap_or(CycleTicks { least: 0, most: 0 });
+        CycleAnswer {
+            refusal: Refusal::from(answer),
+            least: cycle.least,
+            most: cycle.most,
+        }
+    }
+}
+
 // The fewest ticks that the queue gets in any window of so many ticks.
-pub fn least(table: Table, queue: u32, window: u32) -> TicksAnswer
-    ensures { LeastAnswer table queue window result }
+pub fn least(table: Table, queue: u32, window: u32) -> Result<u32, Refused>
+    ensures { LeastAnswer table queue window (ticks_answered result) }
 {
-    let refusal = refusals::of_window(table, queue, window);
-    let mut ticks: u32 = 0;
-    if refusal.number == Refusal::NONE {
-        ticks = questions::bound(table, queue as usize, 1, window);
-    }
-    TicksAnswer {
-        refusal: refusal,
-        ticks: ticks,
-    }
+    let table = refusals::of_window(&table, queue, window)?;
+    let queue = queue as usize;
+    let own = Asked {
+        table,
+        queue,
+        own: true,
+    };
+    Ok(own.bound(window))
 }
 
 // The most: what the others leave at least.
-pub fn most(table: Table, queue: u32, window: u32) -> TicksAnswer
-    ensures { MostAnswer table queue window result }
+pub fn most(table: Table, queue: u32, window: u32) -> Result<u32, Refused>
+    ensures { MostAnswer table queue window (ticks_answered result) }
 {
-    let refusal = refusals::of_window(table, queue, window);
-    let mut ticks: u32 = 0;
-    if refusal.number == Refusal::NONE {
-        ticks = numbers::left(window, questions::bound(table, queue as usize, 0, window));
-    }
-    TicksAnswer {
-        refusal: refusal,
-        ticks: ticks,
-    }
+    let table = refusals::of_window(&table, queue, window)?;
+    let queue = queue as usize;
+    let others = Asked {
+        table,
+        queue,
+        own: false,
+    };
+    Ok(window.saturating_sub(others.bound(window)))
 }
 
 // The fewest and the most in a whole cycle.
-pub fn cycle(table: Table, queue: u32) -> CycleAnswer
-    ensures { CycleAnswers table queue result }
+pub fn cycle(table: Table, queue: u32) -> Result<CycleTicks, Refused>
+    ensures { CycleAnswers table queue (cycle_answered result) }
 {
-    let refusal = refusals::of_queue(table, queue);
-    if refusal.number != Refusal::NONE {
-        return CycleAnswer {
-            refusal: refusal,
-            least: 0,
-            most: 0,
-        };
-    }
-    let period = table::paths::wide(table.period);
-    CycleAnswer {
-        refusal: refusal,
-        least: questions::cycle(table, queue as usize, 1),
-        most: numbers::left(period, questions::cycle(table, queue as usize, 0)),
-    }
+    let table = refusals::of_queue(&table, queue)?;
+    let queue = queue as usize;
+    let own = Asked {
+        table,
+        queue,
+        own: true,
+    };
+    let others = Asked {
+        table,
+        queue,
+        own: false,
+    };
+    Ok(CycleTicks {
+        least: own.cycle(),
+        most: u32::from(table.table.period).saturating_sub(others.cycle()),
+    })
 }
 
 // The least of every window below two periods, into the entries of a lent slice.
-pub fn fill(table: Table, queue: u32, out: &mut [u32]) -> Refusal
-    ensures { Fills table queue out.old out.new result }
+pub fn fill(table: Table, queue: u32, out: &mut [u32]) -> Result<(), Refused>
+    ensures { Fills table queue out.old out.new (outcome result) }
 {
-    let refusal = refusals::of_room(table, queue, out.len());
-    if refusal.number == Refusal::NONE {
-        questions::leasts(table, queue as usize, 1, out);
-    }
-    refusal
+    let table = refusals::of_room(&table, queue, out.len())?;
+    let queue = queue as usize;
+    let own = Asked {
+        table,
+        queue,
+        own: true,
+    };
+    own.leasts(out);
+    Ok(())
 }

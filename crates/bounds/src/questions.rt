@@ -1,64 +1,63 @@
-// The bounds of a well-formed table, by its columns. `pass` 1 asks for a queue's own ticks, 0 for those of all others.
+// The bounds of a well-formed table, by its columns.
 ghost use Rattle.std.specs.Prelude.{◌≡◌, ◌-◌, ◌*◌, ◌≤◌, ◌<◌, length};
 ghost use Rattle.theory.specs.Cycles.{system, cycle_least, least_of};
 ghost use Rattle.table.specs.Table.{tree_of};
-ghost use Rattle.table.specs.Rules.{WellFormed};
 ghost use Rattle.slice.specs.Changes.{Becomes};
-ghost use Rattle.bounds.specs.Flagged.{asks};
+ghost use Rattle.corners.specs.Trees.{tree_from};
+ghost use Rattle.bounds.specs.Flagged.{asks, flagged};
 
-use crate::flags;
-use table::{Table, columns, paths};
+use corners::lent::LentTree;
+use table::{WellFormedTable, columns};
 
-pub fn span(period: u16) -> usize
-    ensures { (result ≡ period) × (result < 65536) }
-{
-    period as usize
+// Whose ticks are asked for: the queue's own, or those of all others.
+#[derive(Clone, Copy)]
+pub struct Asked<'a> {
+    pub table: WellFormedTable<'a>,
+    pub queue: usize,
+    pub own: bool,
+    ghost some_queue: { 1 ≤ queue },
 }
 
-// The least of every window below two periods.
-pub fn leasts(table: Table, queue: usize, pass: u8, out: &mut [u32])
-    requires well_formed { WellFormed table }
-    requires le_queue { (1 ≤ queue) × (2 * table.period ≤ length out.old) }
-    ensures { Becomes (2 * table.period - 1) (least_of (system (tree_of table)) (asks pass queue)) out.old out.new }
-{
-    let parents = columns::parents(table);
-    let ticks = columns::ticks(table);
-    let flags = flags::flags(table, queue);
-    filling::leasts(
-        out,
-        &parents,
-        &ticks,
-        &flags,
-        pass,
-        table.locations,
-        paths::wide(table.period),
-    );
-}
+impl Asked<'_> {
+    // The table's columns, with the queue's locations flagged.
+    fn lend(&self) -> LentTree
+        ensures tree { tree_from result ≡ flagged self.now.table.table.now self.now.queue }
+        ensures own { result.pass ≡ self.now.own }
+    {
+        let table = self.table.table;
+        LentTree {
+            parents: columns::parents(table),
+            ticks: columns::ticks(table),
+            flags: columns::flags(table, self.queue),
+            pass: self.own,
+            locations: table.locations,
+            period: u32::from(table.period),
+        }
+    }
 
-// The least of a cycle.
-pub fn cycle(table: Table, queue: usize, pass: u8) -> u32
-    requires { WellFormed table × (1 ≤ queue) }
-    ensures { (result ≡ cycle_least (system (tree_of table)) (asks pass queue)) × (result ≤ table.period) }
-{
-    let parents = columns::parents(table);
-    let ticks = columns::ticks(table);
-    let flags = flags::flags(table, queue);
-    filling::cycle_least(
-        &parents,
-        &ticks,
-        &flags,
-        pass,
-        table.locations,
-        paths::wide(table.period),
-    )
-}
+    // The least of every window below two periods.
+    pub fn leasts(&self, out: &mut [u32])
+        requires { 2 * self.now.table.table.now.period ≤ length out.old }
+        ensures { let t = self.now.table.table.now in Becomes (2 * t.period - 1) (least_of (system (tree_of t)) (asks self.now.own self.now.queue)) out.old out.new }
+    {
+        filling::leasts(out, &self.lend());
+    }
 
-// The least of one window.
-pub fn bound(table: Table, queue: usize, pass: u8, window: u32) -> u32
-    requires { WellFormed table × (1 ≤ queue) × (window ≤ 2000000) }
-    ensures { result ≡ least_of (system (tree_of table)) (asks pass queue) window }
-{
-    let mut out = [0u32; supply::FILLING];
-    leasts(table, queue, pass, &mut out);
-    supply::at(&out, table.period, cycle(table, queue, pass), window)
+    // The least of a cycle.
+    pub fn cycle(&self) -> u32
+        ensures value { result ≡ cycle_least (system (tree_of self.now.table.table.now)) (asks self.now.own self.now.queue) }
+        ensures upper_bound { result ≤ self.now.table.table.now.period }
+    {
+        filling::cycle_least(&self.lend())
+    }
+
+    // The least of one window.
+    pub fn bound(&self, window: u32) -> u32
+        requires { window ≤ 2000000 }
+        ensures { result ≡ least_of (system (tree_of self.now.table.table.now)) (asks self.now.own self.now.queue) window }
+    {
+        let mut out = [0u32; supply::FILLING];
+        self.leasts(&mut out);
+        supply::at(&out, self.table.table.period, self.cycle(), window)
+    }
 }

@@ -1,54 +1,50 @@
-// Which question is refused: the table's own refusal first, then the queue's, then the amount's or the room's.
-ghost use Rattle.std.specs.Prelude.{◌≡◌, not};
+// Which question is refused: the table's own refusal first, then the queue's, then the amount's or the room's. A question that is
+// not refused is about a well-formed table.
+ghost use Rattle.std.specs.Prelude.{◌≡◌, not, IfOk};
+ghost use Rattle.table.specs.Reasons.{outcome};
 ghost use Rattle.table.specs.Rules.{within};
-ghost use Rattle.bounds.specs.Questions.{also, queue_refusal, window_refusal, fill_refusal};
+ghost use Rattle.bounds.specs.Questions.{queue_refusal, window_refusal, fill_refusal};
 
-use table::{Refusal, Table, paths};
+use table::{Reason, Refused, Table, WellFormedTable};
 
 // The longest window that is answered.
 const WINDOW: u32 = 2000000;
 
-// The refusal that is there already, or else a new one where something is broken.
-fn also(first: Refusal, broken: bool, number: u8) -> Refusal
-    ensures { result ≡ also first broken number }
-{
-    if first.number != Refusal::NONE {
-        return first;
-    }
-    if broken {
-        return Refusal {
-            number: number,
-            place: 0,
-        };
-    }
-    Refusal::none()
-}
-
-fn is_outside(queues: u8, queue: usize) -> bool
+fn is_outside(queues: u8, queue: u32) -> bool
     ensures { result ≡ not (within 1 queues queue) }
 {
-    if queue == 0 {
-        return true;
+    queue == 0 || u32::from(queues) < queue
+}
+
+pub fn of_queue(table: &Table, queue: u32) -> Result<WellFormedTable<'_>, Refused>
+    ensures refusal { outcome result ≡ queue_refusal table.now queue }
+    ensures kept { IfOk result (λ t. t.table.now ≡ table.now) }
+{
+    let accepted = judge::judge(table)?;
+    if is_outside(table.queues, queue) {
+        return Err(Refused::whole(Reason::Queue));
     }
-    paths::number(queues) < queue
+    Ok(accepted)
 }
 
-pub fn of_queue(table: Table, queue: u32) -> Refusal
-    ensures { result ≡ queue_refusal table queue }
+pub fn of_window(table: &Table, queue: u32, window: u32) -> Result<WellFormedTable<'_>, Refused>
+    ensures refusal { outcome result ≡ window_refusal table.now queue window }
+    ensures kept { IfOk result (λ t. t.table.now ≡ table.now) }
 {
-    let broken = is_outside(table.queues, queue as usize);
-    also(judge::judge(table), broken, Refusal::QUEUE)
+    let accepted = of_queue(table, queue)?;
+    if WINDOW < window {
+        return Err(Refused::whole(Reason::Amount));
+    }
+    Ok(accepted)
 }
 
-pub fn of_window(table: Table, queue: u32, window: u32) -> Refusal
-    ensures { result ≡ window_refusal table queue window }
+pub fn of_room(table: &Table, queue: u32, room: usize) -> Result<WellFormedTable<'_>, Refused>
+    ensures refusal { outcome result ≡ fill_refusal table.now queue room }
+    ensures kept { IfOk result (λ t. t.table.now ≡ table.now) }
 {
-    also(of_queue(table, queue), WINDOW < window, Refusal::AMOUNT)
-}
-
-pub fn of_room(table: Table, queue: u32, room: usize) -> Refusal
-    ensures { result ≡ fill_refusal table queue room }
-{
-    let entries = 2 * crate::questions::span(table.period);
-    also(of_queue(table, queue), room < entries, Refusal::ROOM)
+    let accepted = of_queue(table, queue)?;
+    if room < 2 * usize::from(table.period) {
+        return Err(Refused::whole(Reason::Room));
+    }
+    Ok(accepted)
 }

@@ -1,22 +1,12 @@
-// The numbers of the data: two or four bytes, with the highest first.
-ghost use Rattle.std.specs.Prelude.{◌≡◌, ◌+◌, ◌*◌, ◌≤◌, length, drop};
-ghost use Rattle.format.specs.Format.{number16};
+// The numbers of the data: two bytes each, with the higher first.
+ghost use Rattle.std.specs.Prelude.{◌*◌, ◌≤◌, length};
 
-use format::bytes;
-use table::paths;
+use std::array;
 
-// The number of two bytes at `at`.
-pub fn number16(s: &[u8], at: usize) -> u16
-    requires { at + 2 ≤ length s.now }
-    ensures { result ≡ number16 (drop at s.now) }
+// The numbers at the front.
+pub fn numbers<const N: usize>(bytes: &[u8]) -> [u16; N]
+    requires { N * 2 ≤ length bytes.now }
 {
-    bytes::number16(&s[at..])
-}
-
-// The number of four bytes at `at`.
-pub fn number32(s: &[u8], at: usize) -> u32
-    requires { at + 4 ≤ length s.now }
-    ensures { result ≡ number16 (drop at s.now) * 65536 + number16 (drop (at + 2) s.now) }
-{
-    paths::wide(number16(s, at)) * 65536 + paths::wide(number16(s, at + 2))
+    let (pairs, _) = bytes.as_chunks::<2>();
+    array::from_fn(|i| u16::from_be_bytes(pairs[i]))
 }

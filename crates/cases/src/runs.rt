@@ -2,94 +2,66 @@
 //
 // A step has 20 bytes: eight values (2 each) and the released set (4). A given state stands before its steps, in 195 bytes:
 // location (1), done (2), and for each of 32 jobs since, remaining and left (2 each).
-ghost use Rattle.std.specs.Prelude.{◌+◌, ◌≤◌, length};
-
-use crate::answers::refused;
-use crate::big_endian::{number16, number32};
+use crate::big_endian::numbers;
 use crate::steps;
 use job::Job;
-use runner::{State, StepAnswer};
-use std::io;
-use table::{Refusal, Table};
+use runner::{Granted, State};
+use std::{array, io};
+use table::{Refused, Table};
+use words::word;
 
 const STEP: usize = 20;
 
 const STATE: usize = 195;
 
-fn job(s: &[u8], at: usize) -> Job
-    requires { at + 6 ≤ length s.now }
-{
+// Where its jobs begin.
+const JOBS: usize = 3;
+
+const JOB: usize = 6;
+
+fn job(bytes: &[u8; JOB]) -> Job {
+    let [since, remaining, left] = numbers::<3>(bytes);
     Job {
-        since: number16(s, at),
-        remaining: number16(s, at + 2),
-        left: number16(s, at + 4),
+        since,
+        remaining,
+        left,
     }
 }
 
-fn state(s: &[u8]) -> State
-    requires { 195 ≤ length s.now }
-{
-    let none = Job {
-        since: 0,
-        remaining: 0,
-        left: 0,
-    };
-    let mut jobs = [none; Table::TASKS];
-    let mut i: usize = 0;
-    while i < Table::TASKS {
-        jobs[i] = job(s, 3 + i * 6);
-        i += 1;
-    }
+fn state(bytes: &[u8; STATE]) -> State {
+    let [location, high, low, ..] = *bytes;
+    let (jobs, _) = bytes[JOBS..].as_chunks::<JOB>();
     State {
-        location: s[0],
-        done: number16(s, 1),
-        jobs: jobs,
+        location,
+        done: u16::from_be_bytes([high, low]),
+        jobs: array::from_fn(|i| job(&jobs[i])),
     }
 }
 
-// The step at `at`.
-fn step(table: Table, state: State, s: &[u8], at: usize) -> StepAnswer
-    requires { at + 20 ≤ length s.now }
-{
-    let values = [
-        number16(s, at),
-        number16(s, at + 2),
-        number16(s, at + 4),
-        number16(s, at + 6),
-        number16(s, at + 8),
-        number16(s, at + 10),
-        number16(s, at + 12),
-        number16(s, at + 14),
-    ];
-    state.step(table, values, number32(s, at + 16))
+fn step(state: &mut State, table: Table, bytes: &[u8; STEP]) -> Result<Granted, Refused> {
+    let [.., a, b, c, d] = *bytes;
+    state.step(table, numbers(bytes), u32::from_be_bytes([a, b, c, d]))
 }
 
-// The steps from a state on; a refused step hands back the state, and the next one follows.
-fn run(rt: &impl Print, table: Table, start: State, s: &[u8]) -> io::Result<()> {
-    let mut state = start;
-    let mut at: usize = 0;
-    while at + STEP <= s.len() {
-        let answer = step(table, state, s, at);
-        steps::step(rt, answer)?;
-        state = answer.state;
-        at += STEP;
+// The steps from a state on; a refused step leaves the state as it is, and the next one follows.
+fn run(rt: &impl Print, table: Table, mut state: State, bytes: &[u8]) -> io::Result<()> {
+    let (steps, _) = bytes.as_chunks::<STEP>();
+    for bytes in steps {
+        steps::step(rt, step(&mut state, table, bytes))?;
     }
-    steps::state(rt, state)
+    steps::state(rt, &state)
 }
 
 pub fn from_fresh(rt: &impl Print, table: Table, steps: &[u8]) -> io::Result<()> {
-    let answer = State::fresh(table);
-    let refusal = answer.refusal;
-    if refusal.number != Refusal::NONE {
-        return refused(rt, refusal);
+    match State::fresh(table) {
+        Ok(state) => run(rt, table, state, steps),
+        Err(refused) => word(rt, refused),
     }
-    let state = answer.state;
-    run(rt, table, state, steps)
 }
 
-pub fn from_given(rt: &impl Print, table: Table, s: &[u8]) -> io::Result<()> {
-    if s.len() < STATE {
-        return Ok(());
+pub fn from_given(rt: &impl Print, table: Table, bytes: &[u8]) -> io::Result<()> {
+    match bytes.split_first_chunk() {
+        Some((given, steps)) => run(rt, table, state(given), steps),
+        None => Ok(()),
     }
-    run(rt, table, state(s), &s[STATE..])
 }

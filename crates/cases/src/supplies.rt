@@ -1,8 +1,8 @@
 // Questions about the supply of a queue: cycle and filling.
-use crate::answers::refused;
+use bounds::CycleTicks;
 use std::io;
-use table::{Refusal, Table};
-use words::{entries, number};
+use table::Table;
+use words::{word, words};
 
 // The entries lent for a filling, and what they hold before.
 const LENT: usize = 2049;
@@ -13,38 +13,21 @@ const FILLED: u32 = 7;
 pub const LATE: usize = 2046;
 
 pub fn cycle(rt: &impl Print, table: Table, queue: u32) -> io::Result<()> {
-    let answer = bounds::cycle(table, queue);
-    let refusal = answer.refusal;
-    if refusal.number != Refusal::NONE {
-        return refused(rt, refusal);
+    match bounds::cycle(table, queue) {
+        Ok(CycleTicks { least, most }) => print!(rt; " {least} {most}"),
+        Err(refused) => word(rt, refused),
     }
-    number(rt, answer.least as u64)?;
-    number(rt, answer.most as u64)
-}
-
-// Fills the lent entries, and prints those from `from` on.
-fn filled(
-    rt: &impl Print,
-    table: Table,
-    queue: u32,
-    out: &mut [u32],
-    from: usize,
-) -> io::Result<()> {
-    let refusal = bounds::fill(table, queue, out);
-    if refusal.number != Refusal::NONE {
-        refused(rt, refusal)?;
-    }
-    if out.len() < from {
-        return Ok(());
-    }
-    entries(rt, &out[from..])
 }
 
 // The filling in the first `room` entries of those lent, printed from `from` on: beside a refusal too, where nothing is written.
 pub fn fill(rt: &impl Print, table: Table, queue: u32, room: usize, from: usize) -> io::Result<()> {
-    let mut out = [FILLED; LENT];
+    let mut lent = [FILLED; LENT];
     if LENT < room {
         return Ok(());
     }
-    filled(rt, table, queue, &mut out[0..room], from)
+    let out = &mut lent[..room];
+    if let Err(refused) = bounds::fill(table, queue, out) {
+        word(rt, refused)?;
+    }
+    words(rt, out.get(from..).unwrap_or_default())
 }

@@ -1,3 +1,4 @@
 -- Laws of columns, in reading order.
 pub mod Closing
 pub mod Resting
+pub mod Making

@@ -1,2 +1,3 @@
--- What lent columns mean.
+-- What lent columns mean, and the trees and columns that hold them.
 pub mod Lent
+pub mod Trees

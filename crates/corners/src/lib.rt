@@ -2,6 +2,8 @@
 // windows that decide every bound start and end (docs/RULES.md, Runs and bounds).
 #![tactic(auto)]
 
-pub mod marks; // marks.rt: where corners start and end
+pub mod columns; // columns.rt: all of them
+pub mod lent; // lent.rt: the lent tree
+mod marks; // marks.rt: where corners start and end
 pub mod rest; // rest.rt: the least up to the cycle's end
-pub mod sums; // sums.rt: sums along each path
+mod sums; // sums.rt: sums along each path

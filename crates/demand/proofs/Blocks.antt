@@ -3,10 +3,11 @@
 use mathlib.Core.Path.{◌≡◌, refl, ap, ◌∙◌}
 use mathlib.Core.List.{List}
 use mathlib.Core.Logic.{inl, inr}
+use Rattle.std.specs.Prelude.{Option, None, Some}
 use Prim.Native.Nat.{ℕ, suc, ◌+◌, ◌-◌, ◌≤◌, ◌<◌, min}
 use native.Mathlib.Nat.{zero-add}
 use native.Mathlib.Omega.{arith}
-use lib.ListN.{length, set, replicate, length-set, get_or-eq_default}
+use lib.ListN.{length, set, replicate, get_or-eq_default}
 use lib.Seq.{get_or-set_same, get_or-set_other}
 use Rattle.laws.specs.Sum.{sum}
 use Rattle.laws.proofs.Test.{le_or_lt, last_or_before}
@@ -15,8 +16,14 @@ use Rattle.theory.specs.Task.{demand_of}
 use Rattle.theory.proofs.Demand.{demand_of_none}
 use Rattle.table.specs.Columns.{entry}
 use Rattle.slice.proofs.Between.{all_zero}
-use Rattle.demand.specs.Ahead.{far, waiting, waiting_at, ahead, entered, Enters}
+use Rattle.demand.specs.declared.series.Series.{Series}
+use Rattle.demand.specs.Ahead.{far, waiting, waiting_for, no_series, series_at, ahead, entered, Enters, Next}
 use Rattle.demand.proofs.NextDeadlines.{first_due, ahead_set}
+
+-- the sooner of two deadlines, where there is a first
+abbrev pub soonest : Option ℕ → ℕ → Option ℕ
+soonest None d = Some d
+soonest (Some n) d = Some (min n d)
 
 -- ---- what a block has
 
@@ -74,51 +81,38 @@ module _ (block : List ℕ) (s d gap work : ℕ) (some : 1 ≤ gap) (since : s �
 
 -- ---- all tasks
 
-module _ (n s : ℕ) (gaps works dues₀ block₀ : List ℕ) where
-  -- the first i entries have gone past the block, the others not yet
-  pub record Advancing (dues block : List ℕ) (next i : ℕ) : Type 0 where
-    pub some : i ≤ n
-    pub long : length dues ≡ 32
-    pub full : length block ≡ 64
-    pub past : s + 64 ≤ next
-    pub lower : (j : ℕ) → j < i → next ≤ entry dues j
-    pub stays : (j : ℕ) → i ≤ j → entry dues j ≡ entry dues₀ j
-    pub keeps : (w : ℕ) → entered block s w + ahead dues gaps works n w ≡ entered block₀ s w + ahead dues₀ gaps works n w
+module _ (n s : ℕ) (series₀ : List Series) (block₀ : List ℕ) where
+  -- the first i series have gone past the block, the others not yet
+  pub record Advancing (series : List Series) (block : List ℕ) (d : Option ℕ) (i : ℕ) : Type 0 where
+    pub next : Next s series i d
+    pub stays : (j : ℕ) → i ≤ j → series_at series j ≡ series_at series₀ j
+    pub keeps : (w : ℕ) → entered block s w + ahead series n w ≡ entered block₀ s w + ahead series₀ n w
 
-  pub advancing_none : length dues₀ ≡ 32 → length block₀ ≡ 64 → s ≤ 1000000 → Advancing dues₀ block₀ far 0
-  advancing_none e f l = record {
-    some = omega arith;
-    long = e;
-    full = f;
-    past = omega arith;
-    lower = λ j m. absurd (omega arith);
-    stays = λ j m. refl;
-    keeps = λ w. refl;
-  }
+  pub advancing_none : Advancing series₀ block₀ None 0
+  advancing_none = record { next = refl; stays = λ j m. refl; keeps = λ w. refl }
 
-  module _ (dues block : List ℕ) (next i : ℕ) (h : Advancing dues block next i) (l : i < n) where
-    -- entry i's demand
-    abbrev brings : ℕ → ℕ → ℕ
-    brings d w = demand_of (waiting d (entry gaps i) (entry works i)) w
-
-    pub advancing_small : (w : ℕ) → entered block₀ s w + ahead dues₀ gaps works n w ≤ far → entered block s w + brings (entry dues i) w ≤ far
+  module _ (series : List Series) (block : List ℕ) (d : Option ℕ) (i : ℕ) (h : Advancing series block d i) (l : i < n) where
+    pub advancing_small : (w : ℕ) → entered block₀ s w + ahead series₀ n w ≤ far → entered block s w + demand_of (waiting_for (series_at series i)) w ≤ far
     advancing_small w small =
-        omega (arith, h.keeps w, term_le₀ (λ j. demand_of (waiting_at dues gaps works j) w) n i l)
+        omega (arith, h.keeps w, term_le₀ (λ j. demand_of (waiting_for (series_at series j)) w) n i l)
 
-    pub advancing_more : (block' : List ℕ) (d next' : ℕ) → n ≤ 32 → Enters s (entry gaps i) (entry works i) (entry dues i) d block block' → next' ≡ min d next
-        → Advancing (set dues i d) block' next' (i + 1)
-    advancing_more block' d next' few e m =
-        let there : (j : ℕ) → ¬ (j ≡ i) → entry (set dues i d) j ≡ entry dues j = λ j o. get_or-set_other dues i j d 0 o in
-        let room : i < length dues = omega (arith, h.long) in
-        record {
-          some = omega arith;
-          long = simp length-set h.long;
-          full = e.long;
-          past = omega (arith, e.past, h.past, m);
-          lower = λ j o. elim (last_or_before j i (omega arith)) [
-            | inl f ↦ rw f (omega (arith, get_or-set_same dues i d 0 room, m))
-            | inr f ↦ omega (arith, there j (omega arith), h.lower j f, m)
-          ];
-          stays = λ j o. there j (omega arith) ∙ h.stays j (omega arith);
-          keeps = λ w. omega (arith, h.keeps w, e.keeps w, ahead_set dues gaps works n w i d l room);
-        }
+    module _ (block' : List ℕ) (later : Series) (room : i < length series) (e : Enters s (series_at series i) later block block') where
+      there : (j : ℕ) → ¬ (j ≡ i) → series_at (set series i later) j ≡ series_at series j
+      there j o = get_or-set_other series i j later no_series o
+
+      lower : (d : ℕ) → d ≤ later.next → ((j : ℕ) → j < i → d ≤ (series_at series j).next) → (j : ℕ) → j < i + 1 → d ≤ (series_at (set series i later) j).next
+      lower d m before j o = elim (last_or_before j i (omega arith)) [
+        | inl f ↦ rw (f, get_or-set_same series i later no_series room) m
+        | inr f ↦ rw (there j (omega arith)) (before j f)
+      ]
+
+      next_of : (d d' : Option ℕ) → Next s series i d → d' ≡ soonest d later.next → Next s (set series i later) (i + 1) d'
+      next_of None d' z m = rw m (e.past, lower later.next (omega arith) (λ j o. absurd (omega arith)))
+      next_of (Some d) d' z m = rw m (omega (arith, e.past, z.0), lower (min d later.next) (omega arith) (λ j o. omega (arith, z.1 j o)))
+
+      pub advancing_more : (d' : Option ℕ) → d' ≡ soonest d later.next → Advancing (set series i later) block' d' (i + 1)
+      advancing_more d' m = record {
+        next = next_of d d' h.next m;
+        stays = λ j o. there j (omega arith) ∙ h.stays j (omega arith);
+        keeps = λ w. omega (arith, h.keeps w, e.keeps w, ahead_set series n w i later l room);
+      }

@@ -14,8 +14,8 @@ use Rattle.laws.proofs.Test.{le_or_lt, pick_no}
 use Rattle.laws.proofs.Sum.{sum_zero, sum_change}
 use Rattle.theory.specs.Task.{Task, LawfulTask, demand_of}
 use Rattle.theory.proofs.Demand.{demand_of_none}
-use Rattle.table.specs.Columns.{entry}
-use Rattle.demand.specs.Ahead.{waiting, waiting_at, ahead}
+use Rattle.demand.specs.declared.series.Series.{Series}
+use Rattle.demand.specs.Ahead.{waiting, waiting_for, no_series, series_at, ahead}
 
 -- ---- one task
 
@@ -49,17 +49,18 @@ first_due d gap work some w l = elim (le_or_lt (d + gap) w) [
 
 -- ---- all tasks
 
-module _ (dues gaps works : List ℕ) (n w : ℕ) where
-  -- entry i's demand
-  abbrev brings : ℕ → ℕ → ℕ
-  brings d i = demand_of (waiting d (entry gaps i) (entry works i)) w
+module _ (series : List Series) (n w : ℕ) where
+  -- series i's demand
+  abbrev brings : List Series → ℕ → ℕ
+  brings all i = demand_of (waiting_for (series_at all i)) w
 
-  pub ahead_none : ((i : ℕ) → i < n → w < entry dues i) → ahead dues gaps works n w ≡ 0
-  ahead_none h = sum_zero (λ i. brings (entry dues i) i) 0 n (λ i l. rw (zero-add i) (demand_of_none (waiting_at dues gaps works i) w (h i l)))
+  pub ahead_none : ((i : ℕ) → i < n → w < (series_at series i).next) → ahead series n w ≡ 0
+  ahead_none h = sum_zero (brings series) 0 n (λ i l. rw (zero-add i) (demand_of_none (waiting_for (series_at series i)) w (h i l)))
 
-  -- one entry moves
-  pub ahead_set : (i d : ℕ) → i < n → i < length dues → ahead (set dues i d) gaps works n w + brings (entry dues i) i ≡ ahead dues gaps works n w + brings d i
-  ahead_set i d l m =
-      rw (zero-add i, get_or-set_same dues i d 0 m) at
-      (sum_change (λ i'. brings (entry (set dues i d) i') i') (λ i'. brings (entry dues i') i') 0 n i l
-      (λ j k o. rw (zero-add j) (ap (λ x. brings x j) (get_or-set_other dues i j d 0 o))))
+  -- one series moves
+  pub ahead_set : (i : ℕ) (s : Series) → i < n → i < length series
+      → ahead (set series i s) n w + demand_of (waiting_for (series_at series i)) w ≡ ahead series n w + demand_of (waiting_for s) w
+  ahead_set i s l m =
+      rw (zero-add i, get_or-set_same series i s no_series m) at
+      (sum_change (brings (set series i s)) (brings series) 0 n i l
+      (λ j k o. rw (zero-add j) (ap (λ x. demand_of (waiting_for x) w) (get_or-set_other series i j s no_series o))))

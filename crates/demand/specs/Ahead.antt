@@ -1,14 +1,16 @@
--- A queue's deadlines in columns, and the work of a block of windows.
-use Rattle.std.specs.Prelude.{◌≡◌, List, ℕ, suc, ◌+◌, ◌-◌, ◌≤◌, ◌<◌, length}
+-- A queue's deadlines, and the work of a block of windows.
+use Rattle.std.specs.Prelude.{◌≡◌, List, ℕ, suc, ◌+◌, ◌-◌, ◌≤◌, ◌<◌, get_or, Option, None, Some}
 use Rattle.laws.specs.Sum.{sum}
 use Rattle.theory.specs.Task.{Task, LawfulTask, demand_of, demand}
 use Rattle.table.specs.declared.Table.{Table}
+use Rattle.table.specs.declared.Task as table
 use Rattle.table.specs.Table.{tasks_of}
 use Rattle.table.specs.Columns.{entry}
+use Rattle.demand.specs.declared.series.Series.{Series}
 
--- ---- deadlines in columns
+-- ---- deadlines
 
--- Past every deadline: the largest number of 32 bits.
+-- The largest number of 32 bits.
 abbrev pub far : ℕ
 far = 4294967295
 
@@ -16,21 +18,28 @@ far = 4294967295
 abbrev pub waiting : ℕ → ℕ → ℕ → Task
 waiting d gap work = record { queue = 0; work = work; deadline = d; gap = gap }
 
--- The task that entry i stands for.
-abbrev pub waiting_at : List ℕ → List ℕ → List ℕ → ℕ → Task
-waiting_at dues gaps works i = waiting (entry dues i) (entry gaps i) (entry works i)
+-- The task that a series stands for.
+abbrev pub waiting_for : Series → Task
+waiting_for s = waiting s.next s.gap s.work
 
--- The demand of window w that the first n entries bring.
-abbrev pub ahead : List ℕ → List ℕ → List ℕ → ℕ → ℕ → ℕ
-ahead dues gaps works n w = sum (λ i. demand_of (waiting_at dues gaps works i) w) 0 n
+-- All deadlines of a task.
+abbrev pub laid : table.Task → Series
+laid k = record { next = k.deadline; gap = k.gap; work = k.work }
 
--- n entries, for queue q's own tasks: the first deadline of each, its gap, its work. Their demand is the queue's.
-pub record LaidOut (t : Table) (q : ℕ) (dues gaps works : List ℕ) (n : ℕ) : Type 0 where
-  pub few : n ≤ 32
-  pub long : length dues ≡ 32
-  pub lawful : (i : ℕ) → i < n → LawfulTask (waiting_at dues gaps works i)
-  pub small : (i : ℕ) → i < n → entry gaps i ≤ 65535
-  pub demands : (w : ℕ) → ahead dues gaps works n w ≡ demand (tasks_of t) q w
+abbrev pub no_series : Series
+no_series = record { next = 0; gap = 0; work = 0 }
+
+abbrev pub series_at : List Series → ℕ → Series
+series_at series i = get_or series i no_series
+
+-- The demand of window w that the first n series bring.
+abbrev pub ahead : List Series → ℕ → ℕ → ℕ
+ahead series n w = sum (λ i. demand_of (waiting_for (series_at series i)) w) 0 n
+
+-- n series, for queue q's own tasks: all deadlines of each. Their demand is the queue's.
+pub record LaidOut (t : Table) (q : ℕ) (series : List Series) (n : ℕ) : Type 0 where
+  pub lawful : (i : ℕ) → i < n → LawfulTask (waiting_for (series_at series i))
+  pub demands : (w : ℕ) → ahead series n w ≡ demand (tasks_of t) q w
 
 -- ---- blocks of 64 windows
 
@@ -38,16 +47,19 @@ pub record LaidOut (t : Table) (q : ℕ) (dues gaps works : List ℕ) (n : ℕ) 
 abbrev pub entered : List ℕ → ℕ → ℕ → ℕ
 entered block s w = sum (entry block) 0 (suc w - s)
 
--- A task's work has gone into the block: its next deadline was d and is r, past the block, and no window's demand has changed.
-pub record Enters (s gap work d r : ℕ) (before after : List ℕ) : Type 0 where
-  pub long : length after ≡ 64
-  pub past : s + 64 ≤ r
-  pub keeps : (w : ℕ) → entered after s w + demand_of (waiting r gap work) w ≡ entered before s w + demand_of (waiting d gap work) w
+-- A task's work has gone into the block: its next deadline is past the block, and no window's demand has changed.
+pub record Enters (s : ℕ) (old new : Series) (before after : List ℕ) : Type 0 where
+  pub same_gap : new.gap ≡ old.gap
+  pub same_work : new.work ≡ old.work
+  pub past : s + 64 ≤ new.next
+  pub keeps : (w : ℕ) → entered after s w + demand_of (waiting_for new) w ≡ entered before s w + demand_of (waiting_for old) w
 
--- The same for the first n entries. No deadline is before `next`.
-pub record Advances (n s : ℕ) (gaps works dues dues' before after : List ℕ) (next : ℕ) : Type 0 where
-  pub long : length dues' ≡ 32
-  pub full : length after ≡ 64
-  pub past : s + 64 ≤ next
-  pub lower : (i : ℕ) → i < n → next ≤ entry dues' i
-  pub keeps : (w : ℕ) → entered after s w + ahead dues' gaps works n w ≡ entered before s w + ahead dues gaps works n w
+-- No deadline of the first n series is before d, which is past the block; where there is no d there are no series.
+abbrev pub Next : ℕ → List Series → ℕ → Option ℕ → Type 0
+Next s series n None = n ≡ 0
+Next s series n (Some d) = (s + 64 ≤ d) × ((i : ℕ) → i < n → d ≤ (series_at series i).next)
+
+-- The same for the first n series, with the next deadline of all.
+pub record Advances (n s : ℕ) (series series' : List Series) (before after : List ℕ) (d : Option ℕ) : Type 0 where
+  pub next : Next s series' n d
+  pub keeps : (w : ℕ) → entered after s w + ahead series' n w ≡ entered before s w + ahead series n w

@@ -1,2 +1,3 @@
 -- What the functions hand back.
+pub mod Listed
 pub mod Ahead

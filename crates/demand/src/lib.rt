@@ -3,3 +3,4 @@
 
 pub mod deadlines; // deadlines.rt: the work of a block of windows
 pub mod due; // due.rt: demand
+pub mod series; // series.rt: one task's deadlines

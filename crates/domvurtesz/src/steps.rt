@@ -10,19 +10,19 @@ use table::Table;
 pub extern "C" fn domvurtesz_fresh(table: Table) -> FreshAnswer
     ensures { result ≡ fresh_answer table }
 {
-    State::fresh(table)
+    FreshAnswer::from(State::fresh(table))
 }
 
 // C passes no array by value: the variables' values are lent.
 #[unsafe(no_mangle)]
 pub extern "C" fn domvurtesz_step(
-    state: State,
+    mut state: State,
     table: Table,
     values: &[u16; State::VARIABLES],
     released: u32,
 ) -> StepAnswer
     ensures { result ≡ step_answer table state values.now released }
 {
-    let held = *values;
-    state.step(table, held, released)
+    let granted = state.step(table, *values, released);
+    StepAnswer::of(state, granted)
 }

@@ -13,14 +13,14 @@ use writer::WriteAnswer;
 pub extern "C" fn domvurtesz_judge(table: Table) -> Refusal
     ensures { result ≡ judged table }
 {
-    judge::judge(table)
+    Refusal::from(judge::judge(&table))
 }
 
 #[unsafe(no_mangle)]
 pub extern "C" fn domvurtesz_read(bytes: &[u8]) -> ReadAnswer
     ensures { result ≡ read_of bytes.now }
 {
-    record::read(bytes)
+    ReadAnswer::from(record::read(bytes))
 }
 
 #[unsafe(no_mangle)]
@@ -28,7 +28,7 @@ pub extern "C" fn domvurtesz_write(table: Table, out: &mut [u8]) -> WriteAnswer
     ensures value { result ≡ write_of table (length out.old) }
     ensures out_after { out.new ≡ written table out.old }
 {
-    writer::write(table, out)
+    WriteAnswer::from(writer::write(table, out))
 }
 
 // The payload of field k as an offset and a length.
@@ -36,5 +36,5 @@ pub extern "C" fn domvurtesz_write(table: Table, out: &mut [u8]) -> WriteAnswer
 pub extern "C" fn domvurtesz_field(bytes: &[u8], k: usize) -> FieldAnswer
     ensures { result ≡ field_of bytes.now k }
 {
-    record::field_place(bytes, k)
+    FieldAnswer::from(record::field_place(bytes, k))
 }

@@ -10,47 +10,47 @@ use table::{Refusal, Table};
 pub extern "C" fn domvurtesz_least(table: Table, queue: u32, window: u32) -> TicksAnswer
     ensures { LeastAnswer table queue window result }
 {
-    bounds::least(table, queue, window)
+    TicksAnswer::from(bounds::least(table, queue, window))
 }
 
 #[unsafe(no_mangle)]
 pub extern "C" fn domvurtesz_most(table: Table, queue: u32, window: u32) -> TicksAnswer
     ensures { MostAnswer table queue window result }
 {
-    bounds::most(table, queue, window)
+    TicksAnswer::from(bounds::most(table, queue, window))
 }
 
 #[unsafe(no_mangle)]
 pub extern "C" fn domvurtesz_cycle(table: Table, queue: u32) -> CycleAnswer
     ensures { CycleAnswers table queue result }
 {
-    bounds::cycle(table, queue)
+    CycleAnswer::from(bounds::cycle(table, queue))
 }
 
 #[unsafe(no_mangle)]
 pub extern "C" fn domvurtesz_fill(table: Table, queue: u32, out: &mut [u32]) -> Refusal
     ensures { Fills table queue out.old out.new result }
 {
-    bounds::fill(table, queue, out)
+    Refusal::from(bounds::fill(table, queue, out))
 }
 
 #[unsafe(no_mangle)]
 pub extern "C" fn domvurtesz_demand(table: Table, queue: u32, window: u32) -> TicksAnswer
     ensures { DemandAnswer table queue window result }
 {
-    verdict::demand(table, queue, window)
+    TicksAnswer::from(verdict::demand(table, queue, window))
 }
 
 #[unsafe(no_mangle)]
 pub extern "C" fn domvurtesz_verdict(table: Table, queue: u32) -> VerdictAnswer
     ensures { VerdictAnswers table queue result }
 {
-    verdict::verdict(table, queue)
+    VerdictAnswer::from(verdict::verdict(table, queue))
 }
 
 #[unsafe(no_mangle)]
 pub extern "C" fn domvurtesz_wait(table: Table, queue: u32, ticks: u32) -> TicksAnswer
     ensures { WaitAnswer table queue ticks result }
 {
-    verdict::wait(table, queue, ticks)
+    TicksAnswer::from(verdict::wait(table, queue, ticks))
 }

@@ -1,6 +1,10 @@
 -- The tests at one field, in their order. The answer is 0 or the number of refusal.
-use Rattle.std.specs.Prelude.{Bool, ◌&&◌, List, ℕ, ◌+◌, ◌-◌, length, get_or, drop, eqb, leb, ltb}
+use Rattle.std.specs.Prelude.{Bool, true, false, ◌&&◌, List, ℕ, ◌+◌, ◌-◌, length, get_or, drop, eqb, leb, ltb, Result, Ok, Err}
 use Rattle.laws.specs.Test.{pick}
+use Rattle.table.specs.declared.refused.Reason.{Reason}
+use Rattle.table.specs.Reasons.{number}
+use Rattle.format.specs.declared.refusals.Kind.{Kind}
+use Rattle.format.specs.declared.refusals.Kind.TheVariants.{Location, Task}
 use Rattle.format.specs.Format.{number16}
 
 -- The field at `at` has this tag and length.
@@ -29,3 +33,15 @@ field_number s at locations tasks =
     (pick (is_location s at tasks) (pick (leb 128 locations) 3 (pick (ltb (left s at) 12) 1 0))
     (pick (is_task s at locations) (pick (leb 32 tasks) 3 (pick (ltb (left s at) 10) 1 0))
     2))
+
+-- ---- as the code answers
+
+-- The number of refusal, or 0.
+abbrev pub number_or_0 : {A : Type 0} → Result A Reason → ℕ
+number_or_0 (Ok a) = 0
+number_or_0 (Err r) = number r
+
+-- Which of the two a field is.
+abbrev pub names_location : Kind → Bool
+names_location Location = true
+names_location Task = false

@@ -3,6 +3,7 @@
 #![tactic(auto)]
 
 pub mod bytes; // bytes.rt: numbers of two bytes
+pub mod offsets; // offsets.rt: where the fields begin
 pub mod refusals; // refusals.rt: the tests at one field
 
 pub const HEADER_TAG: u8 = 1;

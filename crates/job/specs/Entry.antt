@@ -1,4 +1,5 @@
 -- What an entry of a state says of a job.
+use Rattle.std.specs.Prelude.{Bool, true, Option, None, Some, ltb}
 use Rattle.theory.specs.Job.{Job}
 use Rattle.job.specs.declared.Job.{Job as Entry}
 
@@ -12,3 +13,8 @@ entry_of j = record { since = j.since; remaining = j.remaining; left = j.left }
 -- An entry of zeros.
 abbrev pub no_job : Entry
 no_job = record { since = 0; remaining = 0; left = 0 }
+
+-- An entry has less left than the best so far; at first there is none.
+abbrev pub beats : Entry → Option Entry → Bool
+beats j None = true
+beats j (Some best) = ltb j.left best.left

@@ -1,6 +1,6 @@
 -- What the entries of a state say of jobs, whom a tick serves, and a job after its tick.
-use Rattle.std.specs.Prelude.{true, false, List, ℕ, get_or, replicate}
-use Rattle.laws.specs.Found.{Found, nobody, at, found}
+use Rattle.std.specs.Prelude.{◌≡◌, List, Option, None, Some, ℕ, ◌<◌, get_or, replicate}
+use Rattle.laws.specs.Found.{Found, nobody, at}
 use Rattle.laws.specs.Up.{up_to}
 use Rattle.theory.specs.Job.{Job, serve, age}
 use Rattle.theory.specs.Steps.{names}
@@ -8,7 +8,6 @@ use Rattle.table.specs.declared.Table.{Table}
 use Rattle.table.specs.Table.{tasks_of}
 use Rattle.job.specs.declared.Job.{Job as Entry}
 use Rattle.job.specs.Entry.{job_of, entry_of, no_job}
-use Rattle.jobs.specs.declared.Choice.{Choice}
 
 -- Task i's job.
 abbrev pub job_in : List Entry → ℕ → Job
@@ -18,13 +17,18 @@ job_in entries i = job_of (get_or entries i no_job)
 abbrev pub row : ℕ → (ℕ → Job) → List Entry
 row n js = up_to (λ i. entry_of (js i)) n (replicate 32 no_job)
 
--- Whom the tick serves, as the answer says it: whether a task is served, and its number, 0 where none is.
-abbrev pub choice_of : Found → Choice
-choice_of nobody = record { served = false; task = 0 }
-choice_of (at i) = record { served = true; task = i }
+-- What a step gives for each of the first n tasks is their job.
+abbrev pub Makes : (ℕ → Entry → Type 0) → ℕ → (ℕ → Job) → Type 0
+Makes gives n js = (i : ℕ) (entry : Entry) → i < n → gives i entry → entry ≡ entry_of (js i)
 
-abbrev pub chosen_by : Choice → Found
-chosen_by c = found c.served c.task nobody
+-- Whom the tick serves: none where it is nobody.
+abbrev pub choice_of : Found → Option ℕ
+choice_of nobody = None
+choice_of (at i) = Some i
+
+abbrev pub chosen_by : Option ℕ → Found
+chosen_by None = nobody
+chosen_by (Some i) = at i
 
 -- Job i once the tick is served and over, before it is dropped.
 abbrev pub aged : Table → Found → (ℕ → Job) → ℕ → Job

@@ -1,36 +1,27 @@
 // The judge of a table: which rule it breaks, and where (docs/RULES.md, Refusals).
 #![tactic(auto)]
 
-ghost use Rattle.std.specs.Prelude.{◌≡◌};
+ghost use Rattle.std.specs.Prelude.{◌≡◌, IfOk};
+ghost use Rattle.table.specs.Reasons.{outcome};
 ghost use Rattle.table.specs.Rules.{judged};
 
-use table::{Refusal, Table};
+use table::{Reason, Refused, Table, WellFormedTable};
 
 mod rules; // rules.rt: each rule, and the lowest place that breaks it
 
-// The refusal with the lowest number that applies, at its lowest place; NONE for a well-formed table.
-pub fn judge(table: Table) -> Refusal
-    ensures { result ≡ judged table }
+// The refusal with the lowest number that applies, at its lowest place; or the table, well-formed.
+pub fn judge(table: &Table) -> Result<WellFormedTable<'_>, Refused>
+    ensures refusal { outcome result ≡ judged table.now }
+    ensures kept { IfOk result (λ t. t.table ≡ table.entry) }
 {
     if rules::breaks_count(table) {
-        return Refusal {
-            number: Refusal::COUNT,
-            place: 0,
-        };
+        return Err(Refused::whole(Reason::Count));
     }
     if rules::breaks_header(table) {
-        return Refusal {
-            number: Refusal::VALUE,
-            place: 0,
-        };
+        return Err(Refused::whole(Reason::Value));
     }
-    let value = rules::judge_value(table);
-    if value.number != Refusal::NONE {
-        return value;
-    }
-    let tree = rules::judge_tree(table);
-    if tree.number != Refusal::NONE {
-        return tree;
-    }
-    rules::judge_task(table)
+    rules::judge_value(table)?;
+    rules::judge_tree(table)?;
+    rules::judge_task(table)?;
+    Ok(WellFormedTable { table })
 }

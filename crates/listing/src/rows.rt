@@ -1,24 +1,27 @@
 // What the listing says of one queue, as numbers.
 ghost use Rattle.listing.specs.Rows.{Says};
 
-use search::VerdictAnswer;
-use table::Table;
+use bounds::CycleTicks;
+use search::Verdict;
+use table::{Refused, Table};
 
-// The verdict's refusal is HORIZON or none where the table and the queue are right.
+// Zeros where the cycle is refused. Where the table and the queue are right, a verdict is refused beyond the horizon alone.
 #[derive(Clone, Copy)]
 pub struct Row {
     pub least: u32,
     pub most: u32,
-    pub verdict: VerdictAnswer,
+    pub verdict: Result<Verdict, Refused>,
 }
 
 pub fn of_queue(table: Table, queue: u32) -> Row
     ensures { Says table queue result }
 {
-    let cycle = bounds::cycle(table, queue);
+    let none = CycleTicks { least: 0, most: 0 };
+    let CycleTicks { least, most } = bounds::cycle(table, queue).unwrap_or(none);
+    let verdict = verdict::verdict(table, queue);
     Row {
-        least: cycle.least,
-        most: cycle.most,
-        verdict: verdict::verdict(table, queue),
+        least,
+        most,
+        verdict,
     }
 }

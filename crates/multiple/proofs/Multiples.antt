@@ -1,16 +1,19 @@
 -- Stepping through the multiples of a base: the first that the gap divides is the least common multiple, and none before it is.
 -- The multiple only grows with each task. Assumes nothing.
 use mathlib.Core.Path.{◌≡◌, refl, sym, ap, ◌∙◌}
-use mathlib.Core.Logic.{inl, inr}
+use mathlib.Core.Logic.{◌⊎◌, inl, inr}
 use Prim.Native.Nat.{ℕ, zero, suc, ◌+◌, ◌*◌, ◌%◌, ◌≤◌, ◌<◌}
 use native.Mathlib.Nat.{mul-mod_right, mul-le-mul_right}
 use native.Mathlib.Omega.{arith}
 use lib.Dec.{T_not, eqb, eqb→eq}
+use Rattle.std.specs.Prelude.{None, Some}
+use Rattle.std.proofs.lemmas.Bool.Decides.{leb_tells}
 use Rattle.laws.specs.Found.{Found, nobody, at, first, IsFirst}
 use Rattle.laws.proofs.Test.{either, le_or_lt, last_or_before, eqb_of, neqb_of, pick_yes, pick_no}
 use Rattle.laws.proofs.First.{first_is, first_found}
 use Rattle.theory.specs.Task.{Tasks, belongs}
 use Rattle.theory.specs.Search.{or_one, times, lcm, lcm_to}
+use Rattle.multiple.specs.Limited.{within_limit}
 
 -- ---- one gap
 
@@ -63,6 +66,33 @@ module _ (base gap : ℕ) where
           (elim (le_or_lt s.count gap) [ inl h ↦ omega arith | inr h ↦ absurd (s.none gap some-gap h (mul-mod_right gap base)) ])
           (eqb_of (s.count * base % gap) 0 (ap (λ x. x % gap) (sym s.is) ∙ z))
           (λ i a b. neqb_of (i * base % gap) 0 (s.none i a b))))
+
+-- ---- up to the limit
+
+-- what `within_limit` says
+limit_cases : (L : ℕ) → ((L ≤ 1000000) × (within_limit L ≡ Some L)) ⊎ ((1000000 < L) × (within_limit L ≡ None))
+limit_cases L = elim (leb_tells L 1000000) [
+  | inl h ↦ inl (h.1, rw h.0 refl)
+  | inr h ↦ inr (h.1, rw h.0 refl)
+]
+
+pub within_is : (L : ℕ) → L ≤ 1000000 → Some L ≡ within_limit L
+within_is L l = elim (limit_cases L) [ inl h ↦ sym h.1 | inr h ↦ absurd (omega (arith, h.0)) ]
+
+pub past_is : (L : ℕ) → 1000000 < L → None ≡ within_limit L
+past_is L l = elim (limit_cases L) [ inl h ↦ absurd (omega (arith, h.0)) | inr h ↦ sym h.1 ]
+
+pub within_said : (L m : ℕ) → Some m ≡ within_limit L → (m ≡ L) × (L ≤ 1000000)
+within_said L m e = elim (limit_cases L) [
+  | inl h ↦ (let f : Some m ≡ Some L = e ∙ h.1 in cc, h.0)
+  | inr h ↦ let f : Some m ≡ None = e ∙ h.1 in absurd (cc)
+]
+
+pub past_said : (L : ℕ) → None ≡ within_limit L → 1000000 < L
+past_said L e = elim (limit_cases L) [
+  | inl h ↦ let f : None ≡ Some L = e ∙ h.1 in absurd (cc)
+  | inr h ↦ h.0
+]
 
 -- ---- task by task
 

@@ -5,46 +5,37 @@
 ghost use Rattle.std.specs.Prelude.{◌≡◌, ◌≤◌};
 ghost use Rattle.theory.specs.Search.{lcm, lcm_of};
 ghost use Rattle.table.specs.Table.{tasks_of};
-ghost use Rattle.table.specs.Rules.{WellFormed};
-ghost use Rattle.multiple.specs.Limited.{limited};
+ghost use Rattle.multiple.specs.Limited.{within_limit};
 
 use demand::due;
-use table::{Table, paths};
+use table::WellFormedTable;
 
 // The largest multiple for which there is a verdict.
-pub const LIMIT: u32 = 1_000_000;
+const LIMIT: u32 = 1_000_000;
 
-// The first multiple of `base` that `gap` divides. Above the limit it no longer matters which.
-fn common(base: u32, gap: u32) -> u32
-    requires { (1 ≤ base) × (base ≤ 1000000) × (1 ≤ gap) × (gap ≤ 65535) }
-    ensures { result ≡ limited (lcm base gap) }
+// The first multiple of `base` that `gap` divides.
+fn common(base: u32, gap: u32) -> Option<u32>
+    requires in_bounds { (1 ≤ base) × (base ≤ 1000000) × (1 ≤ gap) × (gap ≤ 65535) }
+    ensures { result ≡ within_limit (lcm base gap) }
 {
     let mut multiple = base;
     while multiple <= LIMIT {
         if multiple % gap == 0 {
-            return multiple;
+            return Some(multiple);
         }
         multiple += base;
     }
-    LIMIT + 1
+    None
 }
 
-pub fn of_queue(table: Table, queue: u32) -> u32
-    requires { WellFormed table }
-    ensures { result ≡ limited (lcm_of (tasks_of table) queue table.period) }
+pub fn of_queue(table: &WellFormedTable, queue: u32) -> Option<u32>
+    ensures { result ≡ within_limit (lcm_of (tasks_of table.now.table.now) queue table.now.table.now.period) }
 {
-    let n = table.tasks;
-    let mut multiple = paths::wide(table.period);
-    let mut i: usize = 0;
-    while i < n {
-        let task = table.task[i];
-        if due::number(task.queue) == queue {
-            multiple = common(multiple, paths::wide(task.gap));
-            if LIMIT < multiple {
-                return multiple;
-            }
+    let mut multiple = u32::from(table.table.period);
+    for task in due::tasks(table) {
+        if u32::from(task.queue) == queue {
+            multiple = common(multiple, u32::from(task.gap))?;
         }
-        i += 1;
     }
-    multiple
+    Some(multiple)
 }

@@ -22,7 +22,7 @@ use Rattle.table.proofs.WellFormed.{tasks_lawful}
 use Rattle.runner.specs.declared.StepAnswer.{StepAnswer}
 use Rattle.runner.specs.History.{Inputs, answer_at, History, granted, releases, service}
 use Rattle.runner.proofs.Follows.{follows, accepted, history_well_formed}
-use Rattle.runner.proofs.Granted.{granted_runs}
+use Rattle.runner.proofs.Grants.{granted_runs}
 use Rattle.promise.proofs.Prefix.{stopped, answer_same, inputs_same, for_ever}
 
 not_late : (b c : Bool) → T (not c) → (b && c) ≡ false

@@ -4,6 +4,7 @@ pub mod Places
 pub mod Fields
 pub mod Length
 pub mod Question
+pub mod Answered
 -- Both round trips.
 pub mod Payloads
 pub mod WrittenReads

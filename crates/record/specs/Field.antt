@@ -1,9 +1,12 @@
 -- The field question: the payload of field k, as a part of the record.
-use Rattle.std.specs.Prelude.{true, false, List, ℕ, zero, suc, take, drop, leb}
+use Rattle.std.specs.Prelude.{true, false, List, ℕ, zero, suc, take, drop, leb, Result, Ok, Err}
 use Rattle.table.specs.declared.Refusal.{Refusal}
+use Rattle.table.specs.declared.refused.Refused.{Refused}
 use Rattle.table.specs.Rules.{refusal, fine}
+use Rattle.table.specs.Reasons.{as_refusal}
 use Rattle.format.specs.Format.{payload_offset, payload_length, field_count}
 use Rattle.record.specs.declared.FieldAnswer.{FieldAnswer}
+use Rattle.record.specs.declared.Part.{Part}
 use Rattle.record.specs.Reading.{read_of}
 
 -- All the reading rules first; then AMOUNT for k past the last field.
@@ -26,3 +29,8 @@ part_of s k = take (part_length s k) (drop (part_offset s k) s)
 -- The question answered by numbers: the refusal, and where the part lies.
 abbrev pub field_of : List ℕ → ℕ → FieldAnswer
 field_of s k = record { refusal = field_refusal s k; offset = part_offset s k; length = part_length s k }
+
+-- A result, as C is given it.
+abbrev pub field_answered : Result Part Refused → FieldAnswer
+field_answered (Ok p) = record { refusal = fine; offset = p.offset; length = p.length }
+field_answered (Err r) = record { refusal = as_refusal r; offset = 0; length = 0 }

@@ -1,10 +1,13 @@
 -- Reading: the fields from the front, what is met first is refused; then the judge.
-use Rattle.std.specs.Prelude.{true, false, List, ℕ, zero, suc, ◌+◌, length, set, drop, ltb}
+use Rattle.std.specs.Prelude.{true, false, List, ℕ, zero, suc, ◌+◌, length, set, drop, ltb, Result, Ok, Err}
 use Rattle.table.specs.declared.Location.{Location}
 use Rattle.table.specs.declared.Task.{Task}
 use Rattle.table.specs.declared.Table.{Table}
 use Rattle.table.specs.declared.Refusal.{Refusal}
+use Rattle.table.specs.declared.refused.Reason.{Reason}
+use Rattle.table.specs.declared.refused.Refused.{Refused}
 use Rattle.table.specs.Table.{empty_table}
+use Rattle.table.specs.Reasons.{as_refusal}
 use Rattle.table.specs.Rules.{refusal, fine, judged}
 use Rattle.format.specs.Format.{header_of, location_of, task_of}
 use Rattle.format.specs.Tests.{header_number, is_location, field_number}
@@ -18,6 +21,16 @@ refused r = record { refusal = r; table = empty_table }
 
 abbrev pub accepted : Table → ReadAnswer
 accepted t = record { refusal = fine; table = t }
+
+-- A reason met at a place.
+abbrev pub placed : {A : Type 0} → ℕ → Result A Reason → Result A Refused
+placed at (Ok a) = Ok a
+placed at (Err r) = Err (record { reason = r; place = at })
+
+-- A result, as C is given it.
+abbrev pub read_answered : Result Table Refused → ReadAnswer
+read_answered (Ok t) = accepted t
+read_answered (Err r) = refused (as_refusal r)
 
 -- ---- all fields from the front
 

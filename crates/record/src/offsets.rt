@@ -2,44 +2,37 @@
 ghost use Rattle.std.specs.Prelude.{◌≡◌, ◌^◌, ◌<◌};
 ghost use Rattle.format.specs.Format.{record_length, field_count, payload_offset, payload_length};
 
+use crate::Part;
+use format::offsets::{location_offset, task_offset};
 use table::Table;
 
 // The header is field 0, location v is field v + HEADERS; the tasks come after the locations.
 const HEADERS: usize = 1;
 
-pub(crate) fn field_count(table: Table) -> usize
-    requires { record_length table < 2 ^ 64 }
-    ensures { result ≡ field_count table }
+pub(crate) fn field_count(table: &Table) -> usize
+    requires { record_length table.now < 2 ^ 64 }
+    ensures { result ≡ field_count table.now }
 {
     HEADERS + table.locations + table.tasks
 }
 
-pub(crate) fn payload_offset(table: Table, k: usize) -> usize
-    requires table_bound { record_length table < 2 ^ 64 }
-    requires k_bound { k < field_count table }
-    ensures { result ≡ payload_offset table k }
+// Where the payload of field k lies.
+pub(crate) fn payload(table: &Table, k: usize) -> Part
+    requires fits { record_length table.now < 2 ^ 64 }
+    requires has_field { k < field_count table.now }
+    ensures offset { result.offset ≡ payload_offset table.now k }
+    ensures length { result.length ≡ payload_length table.now k }
 {
-    let locations = table.locations;
-    if k == 0 {
-        return format::PAYLOAD;
+    let (field, whole) = if k == 0 {
+        (0, format::HEADER_FIELD)
+    } else if k <= table.locations {
+        (location_offset(k - HEADERS), format::LOCATION_FIELD)
+    } else {
+        let i = k - (table.locations + HEADERS);
+        (task_offset(table, i), format::TASK_FIELD)
+    };
+    Part {
+        offset: field + format::PAYLOAD,
+        length: whole - format::PAYLOAD,
     }
-    if k <= locations {
-        return format::HEADER_FIELD + format::LOCATION_FIELD * (k - HEADERS) + format::PAYLOAD;
-    }
-    format::HEADER_FIELD
-        + format::LOCATION_FIELD * locations
-        + format::TASK_FIELD * (k - (locations + HEADERS))
-        + format::PAYLOAD
-}
-
-pub(crate) fn payload_length(table: Table, k: usize) -> usize
-    ensures { result ≡ payload_length table k }
-{
-    if k == 0 {
-        return format::HEADER_FIELD - format::PAYLOAD;
-    }
-    if k <= table.locations {
-        return format::LOCATION_FIELD - format::PAYLOAD;
-    }
-    format::TASK_FIELD - format::PAYLOAD
 }

@@ -10,11 +10,12 @@ pub(crate) fn header(s: &[u8]) -> Table
     requires { 4 ≤ length s.now }
     ensures { result ≡ header_of s.now }
 {
-    let mut table = Table::empty();
-    table.version = s[0];
-    table.queues = s[1];
-    table.period = number16(&s[2..]);
-    table
+    Table {
+        version: s[0],
+        queues: s[1],
+        period: number16(&s[2..]),
+        ..Table::empty()
+    }
 }
 
 pub(crate) fn location(s: &[u8]) -> Location

@@ -24,7 +24,7 @@ use Rattle.table.specs.Table.{tree_of, tasks_of}
 use Rattle.table.specs.Rules.{fine, judged, WellFormed}
 use Rattle.table.specs.Ranged.{Ranged}
 use Rattle.jobs.proofs.Rows.{row_at}
-use Rattle.jobs.proofs.Service.{says_chosen}
+use Rattle.jobs.proofs.Service.{says_served}
 use Rattle.runner.specs.declared.State.{State}
 use Rattle.runner.specs.declared.FreshAnswer.{FreshAnswer}
 use Rattle.runner.specs.declared.StepAnswer.{StepAnswer}
@@ -105,7 +105,7 @@ module _ (t : Table) (ranged : Ranged t) (values : ℕ → List ℕ) (sets : ℕ
 
       serves_is : found (answer_at t values sets n).served (answer_at t values sets n).task nobody ≡ service t values n (released (tasks_of t) (releases sets n) (jobs_before t values sets n))
       unfolding stepped
-      serves_is = ap (λ (a : StepAnswer). found a.served a.task nobody) given ∙ (says_chosen (earliest (tasks_of t) q (released (tasks_of t) (releases sets n) (job_at (state n)))) ∙ chosen_is)
+      serves_is = ap (λ (a : StepAnswer). found a.served a.task nobody) given ∙ (says_served (earliest (tasks_of t) q (released (tasks_of t) (releases sets n) (job_at (state n)))) ∙ chosen_is)
 
       late_is : (i : ℕ) → in_set (answer_at t values sets n).late i ≡ (ltb i t.tasks && late (tasks_of t) (releases sets) (service t values) n i)
       unfolding stepped

@@ -10,7 +10,7 @@ pub mod Keeps
 -- Many steps and the theory: steps follow it, all of it is reached by steps, and the grants sum to the steps.
 pub mod Same
 pub mod Follows
-pub mod Granted
+pub mod Grants
 pub mod Reaches
 -- The worked steps of the rules.
 pub mod Worked

@@ -28,7 +28,7 @@ use Rattle.table.specs.Ranged.{Ranged}
 use Rattle.runner.specs.Step.{value_at}
 use Rattle.runner.specs.History.{walked, releases, service, Reached}
 use Rattle.runner.proofs.Refusals.{well_formed, fresh_judged}
-use Rattle.runner.proofs.Granted.{walk_stands}
+use Rattle.runner.proofs.Grants.{walk_stands}
 use Rattle.runner.proofs.Follows.{goes_on}
 
 -- ---- eight values

@@ -1,12 +1,14 @@
 -- The runner's state: what it says of a position and of jobs, when it is lawful for a table, and the fresh one.
-use Rattle.std.specs.Prelude.{◌≡◌, Bool, not, ◌&&◌, ◌||◌, ℕ, zero, suc, ◌+◌, ◌≤◌, ◌<◌, replicate, eqb, leb, ltb}
+use Rattle.std.specs.Prelude.{◌≡◌, Bool, not, ◌&&◌, ◌||◌, ℕ, zero, suc, ◌+◌, ◌≤◌, ◌<◌, replicate, eqb, leb, ltb, Result, Ok, Err}
 use Rattle.laws.specs.Test.{none}
 use Rattle.theory.specs.Tree.{Position}
 use Rattle.theory.specs.Task.{Task}
 use Rattle.theory.specs.Job.{Job, fresh, LawfulJob}
 use Rattle.table.specs.declared.Table.{Table}
 use Rattle.table.specs.Table.{tree_of, tasks_of}
-use Rattle.table.specs.Rules.{judged}
+use Rattle.table.specs.Rules.{fine, judged}
+use Rattle.table.specs.declared.refused.Refused.{Refused}
+use Rattle.table.specs.Reasons.{as_refusal}
 use Rattle.job.specs.Entry.{job_of, no_job}
 use Rattle.jobs.specs.Entries.{job_in, row}
 use Rattle.runner.specs.declared.State.{State}
@@ -75,3 +77,8 @@ unless (suc n) given refused = refused
 -- The fresh state, or all zeros beside the table's refusal.
 unfoldable pub fresh_answer : Table → FreshAnswer
 fresh_answer t = record { refusal = judged t; state = unless (judged t).number (fresh_state t) empty_state }
+
+-- What C is handed for a result of `fresh`.
+abbrev pub fresh_answered : Result State Refused → FreshAnswer
+fresh_answered (Ok s) = record { refusal = fine; state = s }
+fresh_answered (Err r) = record { refusal = as_refusal r; state = empty_state }

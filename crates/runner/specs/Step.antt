@@ -1,5 +1,5 @@
 -- One step: what it refuses, its four rules, and its answer.
-use Rattle.std.specs.Prelude.{Bool, false, not, ◌&&◌, ◌||◌, List, ℕ, get_or, leb, ltb}
+use Rattle.std.specs.Prelude.{Bool, false, not, ◌&&◌, ◌||◌, List, ℕ, get_or, leb, ltb, is_some, unwrap_or, Result, Ok, Err}
 use Rattle.laws.specs.Found.{Found, first}
 use Rattle.laws.specs.Bits.{in_set, set_of}
 use Rattle.theory.specs.Tree.{Position, grant}
@@ -9,9 +9,12 @@ use Rattle.theory.specs.Steps.{released, served, step, earliest}
 use Rattle.table.specs.declared.Table.{Table}
 use Rattle.table.specs.declared.Refusal.{Refusal}
 use Rattle.table.specs.Table.{tree_of, tasks_of}
+use Rattle.table.specs.declared.refused.Refused.{Refused}
+use Rattle.table.specs.Reasons.{as_refusal}
 use Rattle.table.specs.Rules.{fine, refuse, found_if, judged}
 use Rattle.jobs.specs.Entries.{choice_of}
 use Rattle.runner.specs.declared.State.{State}
+use Rattle.runner.specs.declared.Granted.{Granted}
 use Rattle.runner.specs.declared.places.Place.{Place}
 use Rattle.runner.specs.declared.StepAnswer.{StepAnswer}
 use Rattle.runner.specs.State.{job_at, position_of, state_of, is_lawful, unless}
@@ -53,8 +56,8 @@ stepped t s values set =
       refusal = fine;
       state = state_of t (move (tree_of t) (value_at values) (position_of s)) (step ts (in_set set) (earliest ts queue) (job_at s));
       queue = queue;
-      served = chosen.served;
-      task = chosen.task;
+      served = is_some chosen;
+      task = unwrap_or chosen 0;
       late = set_of (λ i. is_late (age (ts.task i) (served ts (in_set set) (earliest ts queue) (job_at s) i))) t.tasks;
     }
 
@@ -66,3 +69,8 @@ refused_step r s = record { refusal = r; state = s; queue = 0; served = false; t
 
 unfoldable pub step_answer : Table → State → List ℕ → ℕ → StepAnswer
 step_answer t s values set = unless (step_refusal t s set).number (stepped t s values set) (refused_step (step_refusal t s set) s)
+
+-- What C is handed for a step's result and the state after it.
+abbrev pub step_answered : State → Result Granted Refused → StepAnswer
+step_answered s (Ok g) = record { refusal = fine; state = s; queue = g.queue; served = is_some g.task; task = unwrap_or g.task 0; late = g.late }
+step_answered s (Err r) = refused_step (as_refusal r) s

@@ -1,137 +1,74 @@
 // When a state is lawful for a table, and which releases are early.
-ghost use Rattle.std.specs.Prelude.{◌≡◌, ◌&&◌, ◌||◌, ◌≤◌, ltb};
+ghost use Rattle.std.specs.Prelude.{◌≡◌, ◌≤◌};
 ghost use Rattle.laws.specs.Test.{none};
-ghost use Rattle.table.specs.Rules.{fine, refuse};
 ghost use Rattle.table.specs.Table.{as_task};
 ghost use Rattle.job.specs.Entry.{job_of};
-ghost use Rattle.jobs.specs.Entries.{job_in};
+ghost use Rattle.jobs.specs.Entries.{job_in, choice_of};
 ghost use Rattle.runner.specs.State.{is_idle, is_open, is_lawful_job, is_zero, unlawful, left_over, is_lawful};
 ghost use Rattle.runner.specs.Step.{early_task};
 
 use crate::State;
 use job::Job;
-use table::{Refusal, Table, Task, paths};
+use table::{Table, Task};
 
 fn is_idle(job: Job) -> bool
     ensures { result ≡ is_idle (job_of job) }
 {
-    if job.remaining == 0 {
-        return job.left == 0;
-    }
-    false
+    job.remaining == 0 && job.left == 0
 }
 
 // The true sum of since and left can need 17 bits.
 fn is_open(job: Job, task: Task) -> bool
     ensures { result ≡ is_open (as_task task) (job_of job) }
 {
-    if job.remaining < 1 {
-        return false;
-    }
-    if task.work < job.remaining {
-        return false;
-    }
-    if job.left < 1 {
-        return false;
-    }
-    let sum = paths::wide(job.since) + paths::wide(job.left);
-    sum == paths::wide(task.deadline)
+    1 <= job.remaining
+        && job.remaining <= task.work
+        && 1 <= job.left
+        && u32::from(job.since) + u32::from(job.left) == u32::from(task.deadline)
 }
 
 fn is_lawful_job(job: Job, task: Task) -> bool
     ensures { result ≡ is_lawful_job (as_task task) (job_of job) }
 {
-    if task.gap < job.since {
-        return false;
-    }
-    if is_idle(job) {
-        return true;
-    }
-    is_open(job, task)
+    job.since <= task.gap && (is_idle(job) || is_open(job, task))
 }
 
 fn is_zero(job: Job) -> bool
     ensures { result ≡ is_zero (job_of job) }
 {
-    if job.since == 0 {
-        return is_idle(job);
-    }
-    false
+    job.since == 0 && is_idle(job)
 }
 
-fn jobs_are_lawful(entries: [Job; Table::TASKS], table: Table) -> bool
-    requires { table.tasks ≤ 32 }
-    ensures { result ≡ none (unlawful table (job_in entries)) table.tasks }
+fn jobs_are_lawful(entries: &[Job; Table::TASKS], table: &Table) -> bool
+    requires { table.now.tasks ≤ 32 }
+    ensures { result ≡ none (unlawful table.now (job_in entries.now)) table.now.tasks }
 {
-    let n = table.tasks;
-    let mut i: usize = 0;
-    while i < n {
-        if !is_lawful_job(entries[i], table.task[i]) {
-            return false;
-        }
-        i += 1;
-    }
-    true
+    (0..table.tasks).all(|i| is_lawful_job(entries[i], table.task[i]))
 }
 
-fn rest_is_zero(entries: [Job; Table::TASKS], n: usize) -> bool
-    ensures { result ≡ none (left_over n (job_in entries)) 32 }
+fn rest_is_zero(entries: &[Job; Table::TASKS], n: usize) -> bool
+    ensures { result ≡ none (left_over n (job_in entries.now)) 32 }
 {
-    let mut i: usize = n;
-    while i < Table::TASKS {
-        if !is_zero(entries[i]) {
-            return false;
-        }
-        i += 1;
-    }
-    true
+    (n..Table::TASKS).all(|i| is_zero(entries[i]))
 }
 
-pub fn is_lawful(state: State, table: Table) -> bool
-    requires { (table.locations ≤ 128) × (table.tasks ≤ 32) }
-    ensures { result ≡ is_lawful table state }
+#[tactic(auto, unfolding(crate::specs::State::is_lawful))]
+pub fn is_lawful(state: &State, table: &Table) -> bool
+    requires { (table.now.locations ≤ 128) × (table.now.tasks ≤ 32) }
+    ensures { result ≡ is_lawful table.now state.now }
 {
-    let v = paths::number(state.location);
-    if table.locations <= v {
-        return false;
-    }
-    if table.location[v].ticks <= state.done {
-        return false;
-    }
-    let entries = state.jobs;
-    if jobs_are_lawful(entries, table) {
-        return rest_is_zero(entries, table.tasks);
-    }
-    false
+    let v = usize::from(state.location);
+    v < table.locations
+        && state.done < table.location[v].ticks
+        && jobs_are_lawful(&state.jobs, table)
+        && rest_is_zero(&state.jobs, table.tasks)
 }
 
-// Is a task released that lies past the tasks, or whose since is below its gap?
-fn is_early(released: bool, past: bool, job: Job, task: Task) -> bool
-    ensures { result ≡ (released && (past || ltb job.since task.gap)) }
+// The lowest task that is released but lies past the tasks, or whose since is below its gap.
+pub fn early(entries: &[Job; Table::TASKS], table: &Table, set: u32) -> Option<usize>
+    ensures { result ≡ choice_of (early_task table.now (job_in entries.now) set) }
 {
-    if released {
-        if past {
-            return true;
-        }
-        return job.since < task.gap;
-    }
-    false
-}
-
-// EARLY at the lowest task that is released too early, or no refusal.
-pub fn early(entries: [Job; Table::TASKS], table: Table, set: u32) -> Refusal
-    ensures { result ≡ refuse 15 (λ i. i) (early_task table (job_in entries) set) fine }
-{
-    let n = table.tasks;
-    let mut i: usize = 0;
-    while i < Table::TASKS {
-        if is_early(job::is_in(set, i), n <= i, entries[i], table.task[i]) {
-            return Refusal {
-                number: Refusal::EARLY,
-                place: i,
-            };
-        }
-        i += 1;
-    }
-    Refusal::none()
+    (0..Table::TASKS).find(|&i| {
+        job::is_in(set, i) && (table.tasks <= i || entries[i].since < table.task[i].gap)
+    })
 }

@@ -1,73 +1,64 @@
-// What a step refuses, and its two answers: accepted, by the four rules in their order, and refused.
-ghost use Rattle.std.specs.Prelude.{◌≡◌};
-ghost use Rattle.table.specs.Rules.{WellFormed};
+// What a step refuses, and what an accepted one does.
+ghost use Rattle.std.specs.Prelude.{◌≡◌, IfOk};
+ghost use Rattle.table.specs.Reasons.{outcome};
 ghost use Rattle.runner.specs.State.{Lawful};
-ghost use Rattle.runner.specs.Step.{step_refusal, stepped, refused_step};
+ghost use Rattle.runner.specs.Step.{step_refusal, stepped, step_answered};
 
 use crate::places::Place;
-use crate::{State, StepAnswer, lawful, places};
-use table::{Refusal, Table, paths};
+use crate::{Granted, State, lawful, places};
+use jobs::Tasks;
+use table::{Reason, Refused, Table, WellFormedTable};
 
 // The table's refusal, then STATE, then EARLY.
-pub fn refusal(state: State, table: Table, set: u32) -> Refusal
-    ensures { result ≡ step_refusal table state set }
+pub fn checked<'a>(
+    state: &State,
+    table: &'a Table,
+    set: u32,
+) -> Result<WellFormedTable<'a>, Refused>
+    ensures refusal { outcome result ≡ step_refusal table.now state.now set }
+    ensures kept { IfOk result (λ t. t.table.now ≡ table.now) }
 {
-    let judged = judge::judge(table);
-    if judged.number != Refusal::NONE {
-        return judged;
+    let accepted = judge::judge(table)?;
+    if !lawful::is_lawful(state, accepted.table) {
+        return Err(Refused::whole(Reason::State));
     }
-    if !lawful::is_lawful(state, table) {
-        return Refusal {
-            number: Refusal::STATE,
-            place: 0,
-        };
+    match lawful::early(&state.jobs, accepted.table, set) {
+        Some(place) => Err(Refused {
+            reason: Reason::Early,
+            place,
+        }),
+        None => Ok(accepted),
     }
-    let entries = state.jobs;
-    lawful::early(entries, table, set)
 }
 
-pub fn accepted(state: State, table: Table, values: [u16; State::VARIABLES], set: u32) -> StepAnswer
-    requires well_formed { WellFormed table }
-    requires lawful { Lawful table state }
-    ensures { result ≡ stepped table state values set }
+// The four rules in their order.
+pub fn accepted(
+    state: &mut State,
+    table: &WellFormedTable,
+    values: [u16; State::VARIABLES],
+    set: u32,
+) -> Granted
+    requires { Lawful table.now.table.now state.old }
+    ensures { step_answered state.new (Ok result) ≡ stepped table.now.table.now state.old values set }
 {
-    let v = paths::number(state.location);
-    let queue = table.location[v].queue;
-    let entries = state.jobs;
-    let waiting = jobs::release(entries, table, set);
-    let choice = jobs::earliest(waiting, table, queue);
-    let aged = jobs::age(waiting, table, choice);
-    let late = jobs::late_set(aged, table.tasks);
-    let jobs = jobs::drop(aged, table.tasks);
+    let tasks = Tasks { table: table.table };
+    let queue = table.table.location[usize::from(state.location)].queue;
+    let waiting = tasks.release(&state.jobs, set);
+    let choice = tasks.earliest(&waiting, queue);
+    let aged = tasks.age(&waiting, choice);
     let here = Place {
         location: state.location,
         done: state.done,
     };
     let there = places::next(here, table, values);
-    let next = State {
+    *state = State {
         location: there.location,
         done: there.done,
-        jobs: jobs,
+        jobs: tasks.drop_late(&aged),
     };
-    StepAnswer {
-        refusal: Refusal::none(),
-        state: next,
-        queue: queue,
-        served: choice.served,
-        task: choice.task as u8,
-        late: late,
-    }
-}
-
-pub fn refused(refusal: Refusal, state: State) -> StepAnswer
-    ensures { result ≡ refused_step refusal state }
-{
-    StepAnswer {
-        refusal: refusal,
-        state: state,
-        queue: 0,
-        served: false,
-        task: 0,
-        late: 0,
+    Granted {
+        queue,
+        task: choice.map(|i| i as u8),
+        late: tasks.late_set(&aged),
     }
 }

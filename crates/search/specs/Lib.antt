@@ -1,2 +1,3 @@
 -- What the verdict answers.
 pub mod Answers
+pub mod Answered

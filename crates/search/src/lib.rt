@@ -2,13 +2,38 @@
 #![tactic(auto)]
 
 ghost use Rattle.std.specs.Prelude.{◌≡◌};
-ghost use Rattle.search.specs.Answers.{refused_answer, meets_answer, short_answer};
+ghost use Rattle.search.specs.Answered.{verdict_answered};
 
-use table::Refusal;
+use std::fmt;
+use table::{Refusal, Refused};
 
 pub mod verdicts; // verdicts.rt: the shortest short window
 
-// MEETS, or the shortest window in which demand exceeds the least supply. Zeros beside a refusal and beside MEETS.
+// The queue meets, or the shortest window in which demand exceeds the least supply.
+#[derive(Clone, Copy, Debug, PartialEq, Eq)]
+pub enum Verdict {
+    Meets,
+    Short {
+        window: u32,
+        demand: u32,
+        supply: u32,
+    },
+}
+
+impl fmt::Display for Verdict {
+    fn fmt<W: fmt::Write>(&self, f: &mut fmt::Formatter<W>) -> fmt::Result {
+        match *self {
+            Verdict::Meets => f.write_str("meets"),
+            Verdict::Short {
+                window,
+                demand,
+                supply,
+            } => write!(f, "short {window} {demand} {supply}"),
+        }
+    }
+}
+
+// The same as C is given it, or a refusal. Zeros beside a refusal and beside MEETS.
 #[repr(C)]
 #[derive(Clone, Copy)]
 pub struct VerdictAnswer {
@@ -19,46 +44,38 @@ pub struct VerdictAnswer {
     pub supply: u32,
 }
 
-impl VerdictAnswer {
-    pub fn refused(refusal: Refusal) -> VerdictAnswer
-        ensures { result ≡ refused_answer refusal }
-    {
-        VerdictAnswer {
-            refusal: refusal,
+impl From<Result<Verdict, Refused>> for VerdictAnswer {
+    ghost from_gives = { λ r a. a ≡ verdict_answered r };
+
+    fn from(verdict: Result<Verdict, Refused>) -> VerdictAnswer {
+        let none = VerdictAnswer {
+            refusal: Refusal::none(),
             meets: false,
             window: 0,
             demand: 0,
             supply: 0,
-        }
-    }
-
-    fn met() -> VerdictAnswer
-        ensures { result ≡ meets_answer }
-    {
-        VerdictAnswer {
-            refusal: Refusal {
-                number: Refusal::NONE,
-                place: 0,
+        };
+        match verdict {
+            Ok(Verdict::Meets) => VerdictAnswer {
+                meets: true,
+                ..none
             },
-            meets: true,
-            window: 0,
-            demand: 0,
-            supply: 0,
-        }
-    }
-
-    fn short(window: u32, demand: u32, supply: u32) -> VerdictAnswer
-        ensures { result ≡ short_answer window demand supply }
-    {
-        VerdictAnswer {
-            refusal: Refusal {
-                number: Refusal::NONE,
-                place: 0,
+            Ok(
+                Verdict::Short {
+                    window,
+                    demand,
+                    supply,
+                },
+            ) => VerdictAnswer {
+                window,
+                demand,
+                supply,
+                ..none
             },
-            meets: false,
-            window: window,
-            demand: demand,
-            supply: supply,
+            Err(refused) => VerdictAnswer {
+                refusal: refused.into(),
+                ..none
+            },
         }
     }
 }

@@ -1,14 +1,15 @@
 -- A loop that writes one entry a turn: the entries from lo to hi are f's, the others are as they were. Assumes nothing.
-use mathlib.Core.Path.{◌≡◌, refl, ◌∙◌}
-use mathlib.Core.List.{List}
+use mathlib.Core.Path.{◌≡◌, refl, ap, ◌∙◌}
+use mathlib.Core.List.{List, ◌++◌}
 use mathlib.Core.Logic.{inl, inr}
-use Prim.Native.Nat.{ℕ, suc, ◌+◌, ◌≤◌, ◌<◌, zero-le}
+use Prim.Native.Nat.{ℕ, suc, ◌+◌, ◌-◌, ◌≤◌, ◌<◌}
 use native.Mathlib.Omega.{arith}
-use lib.ListN.{length, set, replicate, length-set, length-replicate, get_or-replicate, get_or-eq_default}
+use lib.ListN.{length, set, replicate, take, drop, length-append, length-set, length-replicate, get_or-replicate, get_or-eq_default}
+use Rattle.std.proofs.lemmas.List.{length-drop, length-take-le, get_or-drop, get_or_append_left, get_or-append_right}
 use lib.Seq.{get_or-set_same, get_or-set_other}
 use Rattle.laws.proofs.Test.{le_or_lt}
 use Rattle.table.specs.Columns.{entry}
-use Rattle.slice.specs.Changes.{Entries, Becomes}
+use Rattle.slice.specs.Changes.{Becomes}
 
 -- the entry that is written
 pub set_here : (xs : List ℕ) (k x : ℕ) → k < length xs → entry (set xs k x) k ≡ x
@@ -32,9 +33,6 @@ pub record Between (f : ℕ → ℕ) (lo hi : ℕ) (before after : List ℕ) : T
   pub over : (i : ℕ) → hi ≤ i → entry after i ≡ entry before i
 
 module _ (f : ℕ → ℕ) where
-  pub between_none : (k : ℕ) (xs : List ℕ) → Between f k k xs xs
-  between_none k xs = record { long = refl; inside = λ i a b. absurd (omega arith); under = λ i a. refl; over = λ i a. refl }
-
   -- one more above, or below
   pub between_more : (lo hi x : ℕ) (xs ys : List ℕ) → lo ≤ hi → hi < length xs → x ≡ f hi → Between f lo hi xs ys → Between f lo (hi + 1) xs (set ys hi x)
   between_more lo hi x xs ys o l e b = record {
@@ -67,8 +65,14 @@ module _ (f : ℕ → ℕ) where
     over = λ i p. refl;
   }
 
-  pub between_all : (last hi : ℕ) (xs ys : List ℕ) → hi ≡ last + 1 → Between f 0 hi xs ys → Becomes last f xs ys
-  between_all last hi xs ys e b = record { long = b.long; each = λ i p. b.inside i zero-le (omega arith); later = λ i p. b.over i (omega arith) }
-
-  pub between_entries : (n hi : ℕ) (xs ys : List ℕ) → n ≤ hi → Between f 0 hi xs ys → Entries n f ys
-  between_entries n hi xs ys l b v p = b.inside v zero-le (omega arith)
+-- what becomes of a slice whose first n entries are worked on
+pub becomes_part : (last n : ℕ) (f : ℕ → ℕ) (xs ys : List ℕ) → n ≡ last + 1 → n ≤ length xs → Becomes last f (take n xs) ys → Becomes last f xs (ys ++ drop n xs)
+becomes_part last n f xs ys e l b =
+    let h : length ys ≡ n = b.long ∙ length-take-le n xs l in
+    record {
+      long = simp (length-append, length-drop) (omega arith);
+      each = λ i p. get_or_append_left ys (drop n xs) 0 i (omega arith) ∙ b.each i p;
+      later = λ i p.
+          let d : n + (i - n) ≡ i = omega arith in
+          get_or-append_right ys (drop n xs) n i 0 h (omega arith) ∙ (get_or-drop n xs (i - n) 0 ∙ ap (entry xs) d);
+    }

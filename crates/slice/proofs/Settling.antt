@@ -4,7 +4,6 @@ use mathlib.Core.Path.{◌≡◌, refl, sym, ap, ◌∙◌}
 use mathlib.Core.List.{List}
 use Prim.Native.Nat.{ℕ, zero, suc, ◌+◌, ◌-◌, ◌≤◌, ◌<◌, min, zero-le}
 use native.Mathlib.Omega.{arith}
-use native.Mathlib.Numerals.{add-one}
 use lib.ListN.{length, set}
 use Rattle.theory.specs.Filling.{down, up, filling}
 use Rattle.theory.proofs.Filling.{down_last, down_step}
@@ -12,31 +11,30 @@ use Rattle.table.specs.Columns.{entry}
 use Rattle.slice.specs.Changes.{Becomes}
 use Rattle.slice.proofs.Between.{Between, between_one, between_more, between_less}
 
-module _ (xs : List ℕ) (last : ℕ) (room : last < length xs) where
+module _ (xs : List ℕ) (last : ℕ) where
   abbrev pub falling : ℕ → ℕ
   falling i = down (entry xs) (last - i) i
 
-  pub down_starts : Between falling last (last + 1) xs xs
-  down_starts = between_one falling last xs (sym (down_last (entry xs) last))
+  pub down_starts : (lo : ℕ) → lo ≡ last → Between falling lo (last + 1) xs xs
+  down_starts lo e = rw e (between_one falling last xs (sym (down_last (entry xs) last)))
 
-  pub down_turn : (i k x : ℕ) (ys : List ℕ) → k ≡ suc i → k ≤ last → x ≡ min (entry ys i) (entry ys k) → Between falling k (last + 1) xs ys
+  pub down_turn : (i k x : ℕ) (ys : List ℕ) → k ≡ suc i → k ≤ last → last < length xs → x ≡ min (entry ys i) (entry ys k) → Between falling k (last + 1) xs ys
       → Between falling i (last + 1) xs (set ys i x)
-  down_turn i k x ys e l v b =
+  down_turn i k x ys e l room v b =
       between_less falling i k (last + 1) x xs ys e (omega arith) (omega arith)
       (omega (arith, v, b.under i (omega arith), b.inside k (omega arith) (omega arith), down_step (entry xs) last i (omega arith), ap falling e))
       b
 
+module _ (xs : List ℕ) where
   pub up_starts : Between (up (entry xs)) 0 1 xs xs
   unfolding up
   up_starts = between_one (up (entry xs)) 0 xs refl
 
-  pub up_turn : (i x : ℕ) (ys : List ℕ) → i < last → x ≡ min (entry ys (i + 1)) (entry ys i + 1) → Between (up (entry xs)) 0 (i + 1) xs ys
-      → Between (up (entry xs)) 0 (i + 1 + 1) xs (set ys (i + 1) x)
+  pub up_turn : (i k x : ℕ) (ys : List ℕ) → k ≡ suc i → k < length xs → x ≡ min (entry ys k) (entry ys i + 1) → Between (up (entry xs)) 0 k xs ys
+      → Between (up (entry xs)) 0 (k + 1) xs (set ys k x)
   unfolding up
-  up_turn i x ys l v b =
-      between_more (up (entry xs)) 0 (i + 1) x xs ys zero-le (omega arith)
-      (rw add-one (omega (arith, rw add-one at v, rw add-one at (b.over (i + 1) (omega arith)), b.inside i zero-le (omega arith))))
-      b
+  up_turn i k x ys e l v b =
+      between_more (up (entry xs)) 0 k x xs ys zero-le l (omega (arith, v, b.over k (omega arith), b.inside i zero-le (omega arith), ap (up (entry xs)) e, ap (entry xs) e)) b
 
 -- ---- both passes
 

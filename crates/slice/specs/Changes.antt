@@ -23,9 +23,9 @@ pub record Lowers (last : ℕ) (Q : ℕ → ℕ → Type 0) (before after : List
 
 -- ---- sets of points
 
--- One point, where the mark is 1.
-abbrev pub Marked : ℕ → ℕ → ℕ → ℕ → ℕ → Type 0
-Marked mark n m x y = (mark ≡ 1) × (x ≡ n) × (y ≡ m)
+-- One point.
+abbrev pub Single : ℕ → ℕ → ℕ → ℕ → Type 0
+Single n m x y = (x ≡ n) × (y ≡ m)
 
 -- The points of the sets below n.
 abbrev pub Until : (ℕ → ℕ → ℕ → Type 0) → ℕ → ℕ → ℕ → Type 0
@@ -33,4 +33,4 @@ Until Q n x y = (v : ℕ) × (v < n) × Q v x y
 
 -- Entry i and a whole cycle.
 abbrev pub Longer : ℕ → ℕ → List ℕ → ℕ → ℕ → ℕ → Type 0
-Longer period cycle xs i x y = Marked 1 (i + period) (entry xs i + cycle) x y
+Longer period cycle xs i x y = Single (i + period) (entry xs i + cycle) x y

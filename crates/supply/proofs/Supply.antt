@@ -1,6 +1,6 @@
 -- What is known of a queue's supply decides every window: below 2P the filling has the least, and past 2P the law of the period.
 -- All of its numbers are small. Assumes nothing.
-use mathlib.Core.Path.{◌≡◌, ap, ◌∙◌}
+use mathlib.Core.Path.{◌≡◌, sym, ap, subst, ◌∙◌}
 use mathlib.Core.Bool.{Bool}
 use mathlib.Core.List.{List}
 use mathlib.Core.Logic.{inl, inr}
@@ -14,17 +14,19 @@ use Rattle.laws.proofs.Test.{le_or_lt, pick_yes, pick_no}
 use Rattle.laws.proofs.Minimum.{minimum_default}
 use Rattle.theory.specs.Grants.{count, is}
 use Rattle.theory.specs.Bounds.{Least}
-use Rattle.theory.specs.Tree.{Tree, is_leaf, Formed, grants}
+use Rattle.theory.specs.Tree.{Tree, is_leaf, Formed, grants, CycleLeast}
 use Rattle.theory.specs.Cycles.{cycle_least, from, least_of, system}
 use Rattle.theory.proofs.Bounds.{least_unique, least_grows}
 use Rattle.theory.proofs.Paths.{some_tick}
 use Rattle.theory.proofs.Cycles.{least_far}
 use Rattle.theory.proofs.Runs.{sound, tree_least}
-use Rattle.theory.proofs.Period.{cycle_least_law, cycle_least_unique}
+use Rattle.theory.proofs.Period.{cycle_least_law}
 use Rattle.table.specs.declared.Table.{Table}
 use Rattle.table.specs.Table.{tree_of}
 use Rattle.table.specs.Rules.{WellFormed}
 use Rattle.table.specs.Columns.{entry}
+use Rattle.table.proofs.Known.{well_formed}
+use Rattle.supply.specs.declared.queues.Supply.{Supply}
 use Rattle.supply.specs.Supply.{Supplied, supply_at}
 
 -- ---- any tree, any test
@@ -71,18 +73,27 @@ module _ (t : Table) (formed : WellFormed t) (q : ℕ) where
       let e : v + (w - v) ≡ w = omega arith in
       rw e at (least_grows (grants (tree_of t)) v (w - v) (least_is v) (least_is (v + (w - v)))).0
 
-  module _ (filled : List ℕ) (cycle : ℕ) (known : Supplied t q filled cycle) where
-    pub cycle_is : cycle ≡ cycle_least (system (tree_of t)) (is q)
-    cycle_is = cycle_least_unique (tree_of t) (is q) cycle (cycle_least (system (tree_of t)) (is q)) known.cycle_least_law (cycle_least_law (tree_of t) formed.formed (is q))
+-- ---- a queue's supply
 
-    pub cycle_le : cycle ≤ t.period
-    cycle_le = omega (arith, cycle_is, cycle_small (tree_of t) formed.formed (is q))
+module _ (s : Supply) where
+  abbrev t : Table
+  t = s.table.now.table.now
 
-    pub entry_is : (w : ℕ) → w < 2 * t.period → entry filled w ≡ least t q w
-    entry_is w l = least_said w (entry filled w) (known.least w l)
+  abbrev formed : WellFormed t
+  formed = well_formed s.table.now
 
-    pub entry_small : (w : ℕ) → w < 2 * t.period → entry filled w ≤ 2048
-    entry_small w l = omega (arith, entry_is w l, least_small (tree_of t) formed.formed (is q) w, formed.period)
+  pub cycle_le : s.cycle ≤ t.period
+  cycle_le = omega (arith, s.least_of_cycle, cycle_small (tree_of t) formed.formed (is s.queue))
 
-    pub supply_is : (w : ℕ) → supply_at filled t.period cycle w ≡ least t q w
-    supply_is = supply_least (tree_of t) formed.formed (is q) filled cycle entry_is cycle_is
+  pub entry_small : (w : ℕ) → w < 2 * t.period → entry s.filled.now w ≤ 2048
+  entry_small w l = omega (arith, s.each_least w l, least_small (tree_of t) formed.formed (is s.queue) w, formed.period)
+
+  pub supply_is : (w : ℕ) → supply_at s.filled.now t.period s.cycle w ≡ least t s.queue w
+  supply_is = supply_least (tree_of t) formed.formed (is s.queue) s.filled.now s.cycle s.each_least s.least_of_cycle
+
+  -- in the rules' words
+  pub supplied : Supplied t s.queue s.filled.now s.cycle
+  supplied = record {
+    least = λ w l. rw (s.each_least w l) (least_is t formed s.queue w);
+    cycle_least_law = subst (CycleLeast (tree_of t) (is s.queue)) (sym s.least_of_cycle) (cycle_least_law (tree_of t) formed.formed (is s.queue));
+  }

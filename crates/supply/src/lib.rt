@@ -5,7 +5,7 @@ ghost use Rattle.std.specs.Prelude.{◌≡◌, ℕ, ◌*◌, ◌<◌, ◌≤◌}
 ghost use Rattle.table.specs.Columns.{entry};
 ghost use Rattle.supply.specs.Supply.{supply_at};
 
-use table::paths;
+pub mod queues; // queues.rt: the supply of a queue
 
 // Room for two periods of a table that is as long as may be.
 pub const FILLING: usize = 2048;
@@ -16,12 +16,10 @@ pub fn at(filled: &[u32; FILLING], period: u16, cycle: u32, window: u32) -> u32
     requires by_index { (w : ℕ) → w < 2 * period → entry filled.now w ≤ 2048 }
     ensures { result ≡ supply_at filled.now period cycle window }
 {
-    let turn = paths::wide(period);
+    let turn = u32::from(period);
     if window < 2 * turn {
-        let near = window as usize;
-        return filled[near];
+        return filled[window as usize];
     }
     let past = window - turn;
-    let near = (turn + past % turn) as usize;
-    filled[near] + past / turn * cycle
+    filled[(turn + past % turn) as usize] + past / turn * cycle
 }

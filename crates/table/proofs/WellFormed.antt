@@ -7,18 +7,15 @@ use native.Mathlib.Omega.{arith}
 use lib.Dec.{T}
 use Rattle.laws.proofs.Test.{le_or_lt, and_left, and_right, and_both}
 use Rattle.theory.specs.Tree.{is_child, Child, Formed, Position, grant}
-use Rattle.theory.specs.Guards.{top, holds, Guarded}
+use Rattle.theory.specs.Guards.{holds, Guarded}
 use Rattle.theory.specs.Task.{LawfulTask, Each}
 use Rattle.theory.proofs.Paths.{child_parent, child_below}
 use Rattle.table.specs.declared.Table.{Table}
 use Rattle.table.specs.Table.{location_at, tree_of, tasks_of}
+use Rattle.table.specs.Ranged.{HighInWidth}
 use Rattle.table.specs.Rules.{is_placed, fine, judged, WellFormed}
 use Rattle.table.proofs.Unbroken.{Unbroken, unbroken, unbroken_fine}
 use Rattle.table.proofs.Sentences.{count_rule, header_rule, value_rule, root_rule, child_rule, shape_rule, gap_rule, overlap_rule, period_rule, task_rule}
-
--- each location's guard ends at a value
-abbrev pub HighInWidth : Table → Type 0
-HighInWidth t = (v : ℕ) → v < t.locations → (location_at t v).high ≤ top
 
 -- ---- what breaks no rule is well-formed
 

@@ -5,7 +5,7 @@ use Rattle.table.specs.declared.Table.{Table}
 use Rattle.table.specs.Table.{location_at, task_at}
 use Rattle.table.specs.Ranged.{RangedLocation, RangedTask}
 use Rattle.table.specs.Rules.{WellFormed}
-use Rattle.table.proofs.WellFormed.{HighInWidth}
+use Rattle.table.specs.Ranged.{HighInWidth}
 
 -- of the entries that count
 pub record InWidth (t : Table) : Type 0 where

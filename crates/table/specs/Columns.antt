@@ -1,5 +1,6 @@
 -- One list for each field that the judge reads along the tree, and what the rules say of such lists.
 use Rattle.std.specs.Prelude.{Bool, not, ◌&&◌, List, map, ℕ, get_or, eqb}
+use Rattle.theory.specs.Grants.{is}
 use Rattle.theory.specs.Tree.{Tree, is_leaf, end}
 use Rattle.table.specs.declared.Location.{Location}
 use Rattle.table.specs.declared.Table.{Table}
@@ -19,6 +20,10 @@ low_column t = map (λ (l : Location). l.low) t.location
 
 abbrev pub high_column : Table → List ℕ
 high_column t = map (λ (l : Location). l.high) t.location
+
+-- Which locations are queue q's.
+abbrev pub flag_column : Table → ℕ → List Bool
+flag_column t q = map (λ (l : Location). is q l.queue) t.location
 
 -- ---- what columns say
 

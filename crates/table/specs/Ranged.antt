@@ -1,5 +1,6 @@
 -- What the types say of each table: every number is in its type's range, and the arrays have their lengths.
-use Rattle.std.specs.Prelude.{◌≡◌, ℕ, ◌^◌, ◌<◌, length}
+use Rattle.std.specs.Prelude.{◌≡◌, ℕ, ◌^◌, ◌<◌, ◌≤◌, length}
+use Rattle.theory.specs.Guards.{top}
 use Rattle.table.specs.declared.Location.{Location}
 use Rattle.table.specs.declared.Task.{Task}
 use Rattle.table.specs.declared.Table.{Table}
@@ -29,3 +30,7 @@ pub record Ranged (t : Table) : Type 0 where
   pub task_length : length t.task ≡ 32
   pub location : (v : ℕ) → RangedLocation (location_at t v)
   pub task : (i : ℕ) → RangedTask (task_at t i)
+
+-- Each location's guard ends at a value.
+abbrev pub HighInWidth : Table → Type 0
+HighInWidth t = (v : ℕ) → v < t.locations → (location_at t v).high ≤ top

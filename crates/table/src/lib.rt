@@ -7,6 +7,11 @@ ghost use Rattle.table.specs.Rules.{fine};
 
 pub mod columns; // columns.rt: one field of every location
 pub mod paths; // paths.rt: leaves, and the ticks along a path
+mod refused; // refused.rt: a refusal as an error
+mod well_formed; // well_formed.rt: a table that the judge accepts
+
+pub use refused::{Reason, Refused};
+pub use well_formed::WellFormedTable;
 
 #[repr(C)]
 #[derive(Clone, Copy)]
@@ -88,13 +93,13 @@ impl Table {
             period: 0,
             locations: 0,
             tasks: 0,
-            location: location,
-            task: task,
+            location,
+            task,
         }
     }
 }
 
-// Why an answer is refused, and where. Number 0 is no refusal.
+// Why an answer is refused, and where, in numbers for C: that of the `Reason`, or 0 where nothing is refused.
 #[repr(C)]
 #[derive(Clone, Copy)]
 pub struct Refusal {
@@ -103,45 +108,11 @@ pub struct Refusal {
 }
 
 impl Refusal {
-    pub const NONE: u8 = 0;
-
-    pub const CUT: u8 = 1;
-
-    pub const FIELD: u8 = 2;
-
-    pub const COUNT: u8 = 3;
-
-    pub const VALUE: u8 = 4;
-
-    pub const SHAPE: u8 = 5;
-
-    pub const GAP: u8 = 6;
-
-    pub const OVERLAP: u8 = 7;
-
-    pub const PERIOD: u8 = 8;
-
-    pub const TASK: u8 = 9;
-
-    pub const QUEUE: u8 = 10;
-
-    pub const AMOUNT: u8 = 11;
-
-    pub const NEVER: u8 = 12;
-
-    pub const HORIZON: u8 = 13;
-
-    pub const STATE: u8 = 14;
-
-    pub const EARLY: u8 = 15;
-
-    pub const ROOM: u8 = 16;
-
     pub fn none() -> Refusal
         ensures { result ≡ fine }
     {
         Refusal {
-            number: Refusal::NONE,
+            number: 0,
             place: 0,
         }
     }

@@ -5,34 +5,13 @@ ghost use Rattle.table.specs.Columns.{entry, leaf_over, end_over};
 
 use crate::Table;
 
-// A number widened, with its bound.
-pub fn number(x: u8) -> usize
-    ensures { (result ≡ x) × (result < 256) }
-{
-    x as usize
-}
-
-pub fn wide(x: u16) -> u32
-    ensures { (result ≡ x) × (result < 65536) }
-{
-    x as u32
-}
-
 // Does none of n locations but the root, which is nobody's child, name v as its parent?
 pub fn is_leaf(parents: &[u8; Table::LOCATIONS], n: usize, v: usize) -> bool
     requires { (1 ≤ n) × (n ≤ 128) × (v < 128) }
     ensures { result ≡ leaf_over parents.now n v }
 {
     let name = v as u8;
-    let mut leaf = true;
-    let mut u: usize = 1;
-    while u < n {
-        if parents[u] == name {
-            leaf = false;
-        }
-        u += 1;
-    }
-    leaf
+    !parents[1..n].contains(&name)
 }
 
 // The sum of the ticks on v's path: a parent's number is below its child's.
@@ -45,10 +24,10 @@ pub fn path_ticks(
     ensures value { result ≡ end_over parents.now ticks.now v }
     ensures upper_bound { result ≤ 65535 * (v + 1) }
 {
-    let own = wide(ticks[v]);
+    let own = u32::from(ticks[v]);
     if v == 0 {
         return own;
     }
-    let parent = number(parents[v]);
+    let parent = usize::from(parents[v]);
     path_ticks(parents, ticks, parent) + own
 }

@@ -1,4 +1,3 @@
 -- The laws behind the questions, in reading order.
 pub mod InOrder
-pub mod Filled
 pub mod Unique

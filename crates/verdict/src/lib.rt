@@ -1,82 +1,79 @@
 // Demand, verdict and wait of a queue (docs/RULES.md, Demand, verdict and wait).
 #![tactic(auto)]
 
-ghost use Rattle.std.specs.Prelude.{◌≡◌};
-ghost use Rattle.table.specs.Rules.{refusal};
+ghost use Rattle.std.specs.Prelude.{◌≡◌, ◌≤◌};
+ghost use Rattle.bounds.specs.Answered.{ticks_answered};
+ghost use Rattle.search.specs.Answered.{verdict_answered};
 ghost use Rattle.verdict.specs.Questions.{DemandAnswer, VerdictAnswers, WaitAnswer};
 
-use bounds::{TicksAnswer, questions, refusals};
+use bounds::questions::Asked;
+use bounds::refusals;
 use demand::due;
-use search::{VerdictAnswer, verdicts};
-use table::{Refusal, Table};
+use search::{Verdict, verdicts};
+use supply::FILLING;
+use supply::queues::Supply;
+use table::{Reason, Refused, Table, WellFormedTable};
 
 // The most ticks that a wait is asked for.
 const TICKS: u32 = 65_535;
 
-fn refused(number: u8) -> Refusal
-    ensures { result ≡ refusal number 0 }
+// The queue's supply, over a lent array that is filled.
+fn supply_of<'a>(
+    table: &'a WellFormedTable<'a>,
+    queue: u32,
+    filled: &'a mut [u32; FILLING],
+) -> Supply<'a>
+    requires { 1 ≤ queue }
+    ensures table { result.table.now ≡ table.now }
+    ensures queue { result.queue ≡ queue }
 {
-    Refusal {
-        number: number,
-        place: 0,
-    }
-}
-
-fn told(refusal: Refusal, ticks: u32) -> TicksAnswer
-    ensures { (result.refusal ≡ refusal) × (result.ticks ≡ ticks) }
-{
-    TicksAnswer {
-        refusal: refusal,
-        ticks: ticks,
+    let own = Asked {
+        table: *table,
+        queue: queue as usize,
+        own: true,
+    };
+    own.leasts(filled);
+    let cycle = own.cycle();
+    Supply {
+        table,
+        queue,
+        filled,
+        cycle,
     }
 }
 
 // The most work that can both be released and be due within a window.
-pub fn demand(table: Table, queue: u32, window: u32) -> TicksAnswer
-    ensures { DemandAnswer table queue window result }
+pub fn demand(table: Table, queue: u32, window: u32) -> Result<u32, Refused>
+    ensures { DemandAnswer table queue window (ticks_answered result) }
 {
-    let refusal = refusals::of_window(table, queue, window);
-    if refusal.number != Refusal::NONE {
-        return told(refusal, 0);
-    }
-    told(refusal, due::of_queue(table, queue, window))
+    let accepted = refusals::of_window(&table, queue, window)?;
+    Ok(due::of_queue(&accepted, queue, window))
 }
 
 // Is demand at most the least supply in every window? Else the shortest window in which it is not.
-pub fn verdict(table: Table, queue: u32) -> VerdictAnswer
-    ensures { VerdictAnswers table queue result }
+pub fn verdict(table: Table, queue: u32) -> Result<Verdict, Refused>
+    ensures { VerdictAnswers table queue (verdict_answered result) }
 {
-    let mut filled = [0u32; supply::FILLING];
-    let refusal = bounds::fill(table, queue, &mut filled);
-    if refusal.number != Refusal::NONE {
-        return VerdictAnswer::refused(refusal);
-    }
-    let multiple = multiple::of_queue(table, queue);
-    if multiple::LIMIT < multiple {
-        return VerdictAnswer::refused(refused(Refusal::HORIZON));
-    }
-    let cycle = questions::cycle(table, queue as usize, 1);
-    verdicts::decide(table, queue, &filled, cycle, multiple)
+    let accepted = refusals::of_queue(&table, queue)?;
+    let past = Refused::whole(Reason::Horizon);
+    let multiple = multiple::of_queue(&accepted, queue).ok_or(past)?;
+    let mut filled = [0u32; FILLING];
+    let supply = supply_of(&accepted, queue, &mut filled);
+    Ok(verdicts::decide(&supply, multiple))
 }
 
 // The longest time until one message of so many ticks, alone in its queue, is sent.
-pub fn wait(table: Table, queue: u32, ticks: u32) -> TicksAnswer
-    ensures { WaitAnswer table queue ticks result }
+pub fn wait(table: Table, queue: u32, ticks: u32) -> Result<u32, Refused>
+    ensures { WaitAnswer table queue ticks (ticks_answered result) }
 {
-    let mut filled = [0u32; supply::FILLING];
-    let refusal = bounds::fill(table, queue, &mut filled);
-    if refusal.number != Refusal::NONE {
-        return told(refusal, 0);
+    let accepted = refusals::of_queue(&table, queue)?;
+    if !(1..=TICKS).contains(&ticks) {
+        return Err(Refused::whole(Reason::Amount));
     }
-    if ticks < 1 {
-        return told(refused(Refusal::AMOUNT), 0);
+    let mut filled = [0u32; FILLING];
+    let supply = supply_of(&accepted, queue, &mut filled);
+    if supply.cycle == 0 {
+        return Err(Refused::whole(Reason::Never));
     }
-    if TICKS < ticks {
-        return told(refused(Refusal::AMOUNT), 0);
-    }
-    let cycle = questions::cycle(table, queue as usize, 1);
-    if cycle < 1 {
-        return told(refused(Refusal::NEVER), 0);
-    }
-    told(refusal, waits::longest(table, queue, &filled, cycle, ticks))
+    Ok(waits::longest(&supply, ticks))
 }

@@ -4,10 +4,12 @@
 ghost use Rattle.std.specs.Prelude.{◌≡◌, [], ◌∷◌, ◌+◌, ◌≤◌, length};
 ghost use Rattle.std.proofs.lemmas.List.Edits.{sets};
 ghost use Rattle.format.specs.Format.{high_byte, low_byte, header_field, location_field, task_field, location_fields, task_fields, record_of, location_offset, task_offset, record_length};
-ghost use Rattle.writer.specs.Writing.{write_of, written};
+ghost use Rattle.writer.specs.Writing.{write_answered, write_of, written};
 
-use table::{Location, Refusal, Table, Task};
+use format::offsets::{location_offset, record_length, task_offset};
+use table::{Location, Reason, Refusal, Refused, Table, Task};
 
+// What `write` answers, for C; length 0 beside a refusal.
 #[repr(C)]
 #[derive(Clone, Copy)]
 pub struct WriteAnswer {
@@ -15,16 +17,15 @@ pub struct WriteAnswer {
     pub length: usize,
 }
 
-fn high_byte(x: u16) -> u8
-    ensures { result ≡ high_byte x }
-{
-    (x / 256 % 256) as u8
-}
+impl From<Result<usize, Refused>> for WriteAnswer {
+    ghost from_gives = { λ r a. a ≡ write_answered r };
 
-fn low_byte(x: u16) -> u8
-    ensures { result ≡ low_byte x }
-{
-    (x % 256) as u8
+    fn from(answer: Result<usize, Refused>) -> WriteAnswer {
+        WriteAnswer {
+            refusal: Refusal::from(answer),
+            length: answer.unwrap_or(0),
+        }
+    }
 }
 
 // A number of two bytes, the higher first.
@@ -32,8 +33,7 @@ fn put_number(s: &mut [u8], at: usize, x: u16)
     requires { at + 2 ≤ length s.old }
     ensures { s.new ≡ sets s.old at (high_byte x ∷ low_byte x ∷ []) }
 {
-    let high = high_byte(x);
-    let low = low_byte(x);
+    let [high, low] = x.to_be_bytes();
     s[at] = high;
     s[at + 1] = low;
 }
@@ -47,9 +47,9 @@ fn put_prefix(s: &mut [u8], at: usize, tag: u8, size: u16)
     put_number(s, at + 1, size);
 }
 
-fn put_header(s: &mut [u8], at: usize, table: Table)
+fn put_header(s: &mut [u8], at: usize, table: &Table)
     requires { at + 7 ≤ length s.old }
-    ensures { s.new ≡ sets s.old at (header_field table) }
+    ensures { s.new ≡ sets s.old at (header_field table.now) }
 {
     put_prefix(s, at, format::HEADER_TAG, format::HEADER_LENGTH);
     let from = at + format::PAYLOAD;
@@ -85,45 +85,35 @@ fn put_task(s: &mut [u8], at: usize, task: Task)
 }
 
 // Location v at its place, for each v below the number of locations.
-fn put_locations(s: &mut [u8], table: Table)
-    requires { (table.locations ≤ 128) × (location_offset table.locations ≤ length s.old) }
-    ensures { s.new ≡ sets s.old 7 (location_fields table table.locations) }
+#[tactic(auto, using(crate::proofs::Growing::locations_next), unfolding(format::specs::Format::location_fields))]
+fn put_locations(s: &mut [u8], table: &Table)
+    requires locations_fit { table.now.locations ≤ 128 }
+    requires room { location_offset table.now.locations ≤ length s.old }
+    ensures { s.new ≡ sets s.old 7 (location_fields table.now table.now.locations) }
 {
-    let mut at: usize = format::HEADER_FIELD;
-    let mut v: usize = 0;
-    while v < table.locations {
-        put_location(s, at, table.location[v]);
-        at += format::LOCATION_FIELD;
-        v += 1;
+    for v in 0..table.locations {
+        put_location(s, location_offset(v), table.location[v]);
     }
 }
 
-// Task i at its place, for each i below the number of tasks.
-fn put_tasks(s: &mut [u8], table: Table)
-    requires { (table.locations ≤ 128) × (table.tasks ≤ 32) × (record_length table ≤ length s.old) }
-    ensures { s.new ≡ sets s.old (task_offset table 0) (task_fields table table.tasks) }
+// Task i at its place, for each i below the number of tasks. Not one with `put_locations`: entries, place and put would be parameters.
+#[tactic(auto, using(crate::proofs::Growing::tasks_next), unfolding(format::specs::Format::task_fields))]
+fn put_tasks(s: &mut [u8], table: &Table)
+    requires tasks_fit { table.now.tasks ≤ 32 }
+    requires room { record_length table.now ≤ length s.old }
+    ensures { s.new ≡ sets s.old (task_offset table.now 0) (task_fields table.now table.now.tasks) }
 {
-    let mut at: usize = format::HEADER_FIELD + format::LOCATION_FIELD * table.locations;
-    let mut i: usize = 0;
-    while i < table.tasks {
-        put_task(s, at, table.task[i]);
-        at += format::TASK_FIELD;
-        i += 1;
+    for i in 0..table.tasks {
+        put_task(s, task_offset(table, i), table.task[i]);
     }
 }
 
-fn record_length(table: Table) -> usize
-    requires { (table.locations ≤ 128) × (table.tasks ≤ 32) }
-    ensures { result ≡ record_length table }
-{
-    format::HEADER_FIELD
-        + format::LOCATION_FIELD * table.locations
-        + format::TASK_FIELD * table.tasks
-}
-
-fn put_record(s: &mut [u8], table: Table)
-    requires { (table.locations ≤ 128) × (table.tasks ≤ 32) × (record_length table ≤ length s.old) }
-    ensures { s.new ≡ sets s.old 0 (record_of table) }
+#[tactic(auto, using(crate::proofs::Growing::record_of_law))]
+fn put_record(s: &mut [u8], table: &Table)
+    requires locations_fit { table.now.locations ≤ 128 }
+    requires tasks_fit { table.now.tasks ≤ 32 }
+    requires room { record_length table.now ≤ length s.old }
+    ensures { s.new ≡ sets s.old 0 (record_of table.now) }
 {
     put_header(s, 0, table);
     put_locations(s, table);
@@ -131,32 +121,15 @@ fn put_record(s: &mut [u8], table: Table)
 }
 
 // The judge first, then room for the whole record; bytes past it stay, and a refusal writes nothing.
-pub fn write(table: Table, out: &mut [u8]) -> WriteAnswer
-    ensures value { result ≡ write_of table (length out.old) }
+pub fn write(table: Table, out: &mut [u8]) -> Result<usize, Refused>
+    ensures value { write_answered result ≡ write_of table (length out.old) }
     ensures out_after { out.new ≡ written table out.old }
 {
-    let refusal = judge::judge(table);
-    if refusal.number != Refusal::NONE {
-        return WriteAnswer {
-            refusal: refusal,
-            length: 0,
-        };
-    }
-    let length = record_length(table);
+    judge::judge(&table)?;
+    let length = record_length(&table);
     if out.len() < length {
-        let room = Refusal {
-            number: Refusal::ROOM,
-            place: 0,
-        };
-        return WriteAnswer {
-            refusal: room,
-            length: 0,
-        };
+        return Err(Refused::whole(Reason::Room));
     }
-    put_record(out, table);
-    let none = Refusal::none();
-    WriteAnswer {
-        refusal: none,
-        length: length,
-    }
+    put_record(out, &table);
+    Ok(length)
 }

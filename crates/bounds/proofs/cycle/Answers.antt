@@ -1,36 +1,32 @@
--- `bounds::cycle` meets its contract: without a refusal the table is well formed, and both numbers are by the least of a cycle. Assumes
--- nothing.
-use mathlib.Core.Path.{sym, ap, ◌∙◌}
+use Rattle.std.proofs.Common.{sym, subst, ap, ◌-◌}
+use Rattle.theory.specs.Grants.{is}
+use Rattle.theory.specs.Tree.{CycleLeast, CycleMost}
 use Rattle.table.specs.declared.Refusal.{Refusal}
+use Rattle.table.specs.declared.Table.{Table}
 use Rattle.table.specs.Table.{tree_of}
-use Rattle.table.proofs.Ranged.{ranged}
-use Rattle.bounds.proofs.Refused.{Asked, queue_asked}
+use Rattle.table.proofs.Known.{well_formed}
+use Rattle.bounds.proofs.Refused.{queue_known}
 use Rattle.bounds.proofs.Answered.{cycle_least_says, cycle_most_says}
 use Rattle.bounds.proofs.cycle.Goals as goal
-use Rattle.bounds.proofs.cycle.Goals.{Else-refusal-ne-NONE}
-
--- no refusal
-asked : (c : Else-refusal-ne-NONE) → Asked c.args.table c.args.queue
-asked c =
-    let a = c.args in
-    queue_asked a.table (ranged a.table _ c.well_formed.0) a.queue (ap (λ (x : Refusal). x.number) (sym c.of_queue-refusal.ensures) ∙ c.if-refusal-ne-NONE.false)
-
-pub cycle-requires : goal.cycle-requires
-cycle-requires c = let k = asked (goal.at.cycle-requires c).Else-refusal-ne-NONE in (k.well_formed, k.some)
-
-pub cycle-requires-2 : goal.cycle-requires-2
-cycle-requires-2 c = let k = asked (goal.at.cycle-requires-2 c).Else-refusal-ne-NONE in (k.well_formed, k.some)
 
 pub returns : goal.returns
 returns c =
     let a = c.args in
-    let k = asked (goal.at.returns c).Else-refusal-ne-NONE in
-    let t = tree_of a.table in
-    let e = c.of_queue-refusal.ensures in
-    let n = ap (λ (x : Refusal). x.number) e in
+    let e = c.in_ok-table.ensures.refusal in
+    let kept = c.in_ok-table.ensures.kept in
+    let accepted = c.in_ok-table.table in
+    let formed = (well_formed accepted).formed in
+    let t = tree_of accepted.table.now in
+    let most = cycle_most_says t formed a.queue _ c.cycle-2.ensures.value in
     record {
       refusal = e;
-      least = λ z. cycle_least_says t k.well_formed.formed a.queue _ c.cycle.ensures.0;
-      most = λ z. rw (c.left.ensures, c.wide-period.ensures.0) (cycle_most_says t k.well_formed.formed a.queue _ c.cycle-2.ensures.0);
-      silent = λ z. absurd (z (sym n ∙ c.if-refusal-ne-NONE.false));
+      least = λ z. subst (λ (u : Table). CycleLeast (tree_of u) (is a.queue) c.cycle.result) kept (cycle_least_says t formed a.queue _ c.cycle.ensures.value);
+      most = λ z. rw (c.saturating_sub.ensures, c.from.ensures) (subst (λ (u : Table). CycleMost (tree_of u) (is a.queue) (c.in_ok-table.table.table.now.period - c.cycle-2.result)) kept most);
+      silent = λ z. absurd (z (sym (ap (λ (x : Refusal). x.number) e)));
     }
+
+pub invariant_of-own : goal.invariant_of-own
+invariant_of-own c = record { some_queue = (queue_known c.args.table c.args.queue c.in_ok-table.ensures.refusal).0 }
+
+pub invariant_of-others : goal.invariant_of-others
+invariant_of-others c = record { some_queue = (queue_known c.args.table c.args.queue c.in_ok-table.ensures.refusal).0 }

@@ -1,26 +1,24 @@
--- `bounds::least` meets its contract: without a refusal the table is well formed, and its bound is the least over the runs. Assumes
--- nothing.
-use mathlib.Core.Path.{sym, ap, ◌∙◌}
-use Prim.Native.Nat.{◌≤◌}
-use Rattle.table.specs.declared.Refusal.{Refusal}
+use Rattle.std.proofs.Common.{subst}
+use Rattle.theory.specs.Grants.{is}
+use Rattle.theory.specs.Bounds.{Least}
+use Rattle.theory.specs.Tree.{grants}
+use Rattle.table.specs.declared.Table.{Table}
 use Rattle.table.specs.Table.{tree_of}
-use Rattle.table.proofs.Ranged.{ranged}
-use Rattle.bounds.proofs.Refused.{Asked, window_asked}
+use Rattle.table.proofs.Known.{well_formed}
+use Rattle.bounds.proofs.Refused.{window_known}
 use Rattle.bounds.proofs.Answered.{answer_says, least_says}
 use Rattle.bounds.proofs.least.Goals as goal
-use Rattle.bounds.proofs.least.Goals.{Then-refusal-eq-NONE}
 
--- no refusal
-asked : (c : Then-refusal-eq-NONE) → Asked c.args.table c.args.queue × (c.args.window ≤ 2000000)
-asked c =
+pub returns : goal.returns
+returns c =
     let a = c.args in
-    window_asked a.table (ranged a.table _ c.well_formed.0) a.queue a.window (ap (λ (x : Refusal). x.number) (sym c.of_window-refusal.ensures) ∙ c.if-refusal-eq-NONE.true)
+    let accepted = c.in_ok-table.table in
+    let says = least_says (tree_of accepted.table.now) (well_formed accepted).formed a.queue _ a.window c.bound.ensures in
+    let of_table = subst (λ (t : Table). Least (grants (tree_of t)) (is a.queue) a.window c.bound.result) c.in_ok-table.ensures.kept says in
+    answer_says _ _ _ c.in_ok-table.ensures.refusal of_table
 
-pub bound-ticks-requires : goal.bound-ticks-requires
-bound-ticks-requires c = let k = asked (goal.at.bound-ticks-requires c).Then-refusal-eq-NONE in (k.0.well_formed, k.0.some, k.1)
+pub invariant_of-own : goal.invariant_of-own
+invariant_of-own c = record { some_queue = (window_known c.args.table c.args.queue c.args.window c.in_ok-table.ensures.refusal).0 }
 
-pub returns-then-refusal-eq-NONE : goal.returns-then-refusal-eq-NONE
-returns-then-refusal-eq-NONE c =
-    let a = c.args in
-    let k = asked (goal.at.returns-then-refusal-eq-NONE c).Then-refusal-eq-NONE in
-    answer_says _ _ _ c.of_window-refusal.ensures _ c.if-refusal-eq-NONE.true (least_says (tree_of a.table) k.0.well_formed.formed a.queue _ a.window c.bound-ticks.ensures)
+pub bound-requires : goal.bound-requires
+bound-requires c = (window_known c.args.table c.args.queue c.args.window c.in_ok-table.ensures.refusal).1

@@ -1,27 +1,24 @@
--- `bounds::most` meets its contract: without a refusal the table is well formed, and what the others have at least is left of the window.
--- Assumes nothing.
-use mathlib.Core.Path.{sym, ap, ◌∙◌}
-use Prim.Native.Nat.{◌≤◌}
-use Rattle.table.specs.declared.Refusal.{Refusal}
+use Rattle.std.proofs.Common.{subst, ◌-◌}
+use Rattle.theory.specs.Grants.{is}
+use Rattle.theory.specs.Bounds.{Most}
+use Rattle.theory.specs.Tree.{grants}
+use Rattle.table.specs.declared.Table.{Table}
 use Rattle.table.specs.Table.{tree_of}
-use Rattle.table.proofs.Ranged.{ranged}
-use Rattle.bounds.proofs.Refused.{Asked, window_asked}
+use Rattle.table.proofs.Known.{well_formed}
+use Rattle.bounds.proofs.Refused.{window_known}
 use Rattle.bounds.proofs.Answered.{answer_says, most_says}
 use Rattle.bounds.proofs.most.Goals as goal
-use Rattle.bounds.proofs.most.Goals.{Then-refusal-eq-NONE}
 
--- no refusal
-asked : (c : Then-refusal-eq-NONE) → Asked c.args.table c.args.queue × (c.args.window ≤ 2000000)
-asked c =
+pub returns : goal.returns
+returns c =
     let a = c.args in
-    window_asked a.table (ranged a.table _ c.well_formed.0) a.queue a.window (ap (λ (x : Refusal). x.number) (sym c.of_window-refusal.ensures) ∙ c.if-refusal-eq-NONE.true)
+    let accepted = c.in_ok-table.table in
+    let says = most_says (tree_of accepted.table.now) (well_formed accepted).formed a.queue _ a.window c.bound.ensures in
+    let of_table = subst (λ (t : Table). Most (grants (tree_of t)) (is a.queue) a.window (a.window - c.bound.result)) c.in_ok-table.ensures.kept says in
+    answer_says _ _ _ c.in_ok-table.ensures.refusal (rw c.saturating_sub.ensures of_table)
+
+pub invariant_of-others : goal.invariant_of-others
+invariant_of-others c = record { some_queue = (window_known c.args.table c.args.queue c.args.window c.in_ok-table.ensures.refusal).0 }
 
 pub bound-requires : goal.bound-requires
-bound-requires c = let k = asked (goal.at.bound-requires c).Then-refusal-eq-NONE in (k.0.well_formed, k.0.some, k.1)
-
-pub returns-then-refusal-eq-NONE : goal.returns-then-refusal-eq-NONE
-returns-then-refusal-eq-NONE c =
-    let a = c.args in
-    let k = asked (goal.at.returns-then-refusal-eq-NONE c).Then-refusal-eq-NONE in
-    let m = most_says (tree_of a.table) k.0.well_formed.formed a.queue _ a.window c.bound.ensures in
-    answer_says _ _ _ c.of_window-refusal.ensures _ c.if-refusal-eq-NONE.true (rw c.left-ticks.ensures m)
+bound-requires c = (window_known c.args.table c.args.queue c.args.window c.in_ok-table.ensures.refusal).1

@@ -1,13 +1,11 @@
--- `judge::judge` meets its contract: a rule that is broken refuses, and one that is kept hands on to the next, with what the next
--- requires. Assumes nothing.
-use mathlib.Core.Path.{◌≡◌, sym, ◌∙◌}
-use mathlib.Core.Bool.{false}
-use native.Mathlib.Omega.{arith}
+-- A rule that is broken refuses, and one that is kept hands on to the next, with what the next requires.
+use Rattle.std.proofs.Common.{◌≡◌, sym, ap, ◌∙◌, false, rules, arith}
 use Rattle.laws.specs.Found.{nobody}
 use Rattle.laws.proofs.First.{first_nobody}
 use Rattle.table.specs.declared.Refusal.{Refusal}
 use Rattle.table.specs.declared.Table.{Table}
 use Rattle.table.specs.Columns.{judged_tree}
+use Rattle.table.specs.Reasons.{as_refusal, outcome}
 use Rattle.table.specs.Rules.{breaks_count, breaks_header, breaks_value, breaks_task, refuse, fine, found_if, lowest_location, lowest_task, location_place, task_place, judged}
 use Rattle.table.proofs.Unbroken.{refuse_nobody}
 use Rattle.judge.proofs.Lowest.{refused, passed, if_refused, if_kept, tree_refused, tree_kept}
@@ -24,68 +22,82 @@ from_value t = refuse 4 location_place (lowest_location t breaks_value) (judged_
 abbrev from_header : Table → Refusal
 from_header t = refuse 4 (λ v. 0) (found_if (breaks_header t)) (from_value t)
 
--- ---- COUNT is kept
+-- ---- rules that are kept
 
 module _ (t : Table) (counted : breaks_count t ≡ false) where
   after_count : from_header t ≡ judged t
   unfolding judged
   after_count = if_kept 3 (breaks_count t) (from_header t) counted
 
-  -- ---- VALUE of the header is kept
-
   module _ (headed : breaks_header t ≡ false) where
     after_header : from_value t ≡ judged t
     after_header = if_kept 4 (breaks_header t) (from_value t) headed ∙ after_count
 
-    -- ---- VALUE of the locations is kept
-
-    module _ (r : Refusal) (e : r ≡ refuse 4 location_place (lowest_location t breaks_value) fine) (z : r.number ≡ 0) where
+    module _ (e : fine ≡ refuse 4 location_place (lowest_location t breaks_value) fine) where
       value_kept : lowest_location t breaks_value ≡ nobody
-      value_kept = passed 4 location_place r (lowest_location t breaks_value) (omega arith) e z
+      value_kept = passed 4 location_place (lowest_location t breaks_value) fine (omega arith) e
 
       after_value : judged_tree t (from_task t) ≡ judged t
       after_value = sym (refuse_nobody 4 location_place (lowest_location t breaks_value) (judged_tree t (from_task t)) value_kept) ∙ after_header
 
+      after_tree : fine ≡ judged_tree t fine → from_task t ≡ judged t
+      after_tree f = tree_kept t (from_task t) f ∙ after_value
+
 -- ---- the goals
 
-pub returns-then-breaks_count : goal.returns-then-breaks_count
+pub returns-then-breaks_count-clause-refusal : goal.returns-then-breaks_count-clause-refusal
 unfolding judged
-returns-then-breaks_count c =
-    let t = c.args.table in
-    if_refused 3 (breaks_count t) (from_header t) (sym c.breaks_count.ensures ∙ c.if-breaks_count.true)
+returns-then-breaks_count-clause-refusal c =
+    let t = c.args.table.now in
+    ap as_refusal c.whole.ensures ∙ if_refused 3 (breaks_count t) (from_header t) (sym c.breaks_count.ensures ∙ c.if-breaks_count.true)
 
-pub returns-then-breaks_header : goal.returns-then-breaks_header
-returns-then-breaks_header c =
-    let t = c.args.table in
-    if_refused 4 (breaks_header t) (from_value t) (sym c.breaks_header.ensures ∙ c.if-breaks_header.true)
-    ∙ after_count t (sym c.breaks_count.ensures ∙ c.if-breaks_count.false)
+pub returns-then-breaks_header-clause-refusal : goal.returns-then-breaks_header-clause-refusal
+returns-then-breaks_header-clause-refusal c =
+    let t = c.args.table.now in
+    ap as_refusal c.whole-then-breaks_header.ensures
+    ∙ (if_refused 4 (breaks_header t) (from_value t) (sym c.breaks_header.ensures ∙ c.if-breaks_header.true)
+    ∙ after_count t (sym c.breaks_count.ensures ∙ c.if-breaks_count.false))
 
-pub returns-then-value-ne-NONE : goal.returns-then-value-ne-NONE
-returns-then-value-ne-NONE c =
-    let t = c.args.table in
-    refused 4 location_place c.judge_value-value.result (lowest_location t breaks_value) (judged_tree t (from_task t)) c.judge_value-value.ensures c.if-value-ne-NONE.true
-    ∙ after_header t (sym c.breaks_count.ensures ∙ c.if-breaks_count.false) (sym c.breaks_header.ensures ∙ c.if-breaks_header.false)
+pub returns-in_err-judge_value-clause-refusal : goal.returns-in_err-judge_value-clause-refusal
+returns-in_err-judge_value-clause-refusal c =
+    let t = c.args.table.now in
+    let e = c.in_err-judge_value.field-0.0 in
+    let given : outcome c.from_residual.result ≡ as_refusal e = search rules in
+    given
+    ∙ (refused 4 location_place (lowest_location t breaks_value) (judged_tree t (from_task t)) e c.in_err-judge_value.ensures.refusal
+    ∙ after_header t (sym c.breaks_count.ensures ∙ c.if-breaks_count.false) (sym c.breaks_header.ensures ∙ c.if-breaks_header.false))
 
-pub judge_tree-tree-requires-clause-by_index : goal.judge_tree-tree-requires-clause-by_index
-judge_tree-tree-requires-clause-by_index c =
-    let t = c.args.table in
+pub judge_tree-requires-clause-values : goal.judge_tree-requires-clause-values
+judge_tree-requires-clause-values c =
+    let t = c.args.table.now in
     let counted = sym c.breaks_count.ensures ∙ c.if-breaks_count.false in
     let headed = sym c.breaks_header.ensures ∙ c.if-breaks_header.false in
-    λ v m. first_nobody (breaks_value t) t.locations v (value_kept t counted headed _ c.judge_value-value.ensures c.if-value-ne-NONE.false) m
+    λ v m. first_nobody (breaks_value t) t.locations v (value_kept t counted headed c.in_ok-judge_value.ensures.refusal) m
 
-pub returns-then-tree-ne-NONE : goal.returns-then-tree-ne-NONE
-returns-then-tree-ne-NONE c =
-    let t = c.args.table in
+pub returns-in_err-judge_tree-clause-refusal : goal.returns-in_err-judge_tree-clause-refusal
+returns-in_err-judge_tree-clause-refusal c =
+    let t = c.args.table.now in
     let counted = sym c.breaks_count.ensures ∙ c.if-breaks_count.false in
     let headed = sym c.breaks_header.ensures ∙ c.if-breaks_header.false in
-    tree_refused t c.judge_tree-tree.result (from_task t) c.judge_tree-tree.ensures c.if-tree-ne-NONE.true
-    ∙ after_value t counted headed _ c.judge_value-value.ensures c.if-value-ne-NONE.false
+    let e = c.in_err-judge_tree.field-0.0 in
+    let given : outcome c.from_residual-in_err-judge_tree.result ≡ as_refusal e = search rules in
+    given ∙ (tree_refused t (from_task t) e c.in_err-judge_tree.ensures ∙ after_value t counted headed c.in_ok-judge_value.ensures.refusal)
 
-pub returns : goal.returns
-returns c =
-    let t = c.args.table in
+pub returns-in_err-judge_task-clause-refusal : goal.returns-in_err-judge_task-clause-refusal
+returns-in_err-judge_task-clause-refusal c =
+    let t = c.args.table.now in
     let counted = sym c.breaks_count.ensures ∙ c.if-breaks_count.false in
     let headed = sym c.breaks_header.ensures ∙ c.if-breaks_header.false in
-    c.judge_task.ensures
-    ∙ tree_kept t c.judge_tree-tree.result (from_task t) c.judge_tree-tree.ensures c.if-tree-ne-NONE.false
-    ∙ after_value t counted headed _ c.judge_value-value.ensures c.if-value-ne-NONE.false
+    let e = c.in_err-judge_task.field-0.0 in
+    let given : outcome c.from_residual-in_err-judge_task.result ≡ as_refusal e = search rules in
+    given ∙ (c.in_err-judge_task.ensures ∙ after_tree t counted headed c.in_ok-judge_value.ensures.refusal c.in_ok-judge_tree.ensures)
+
+pub invariant_of-result : goal.invariant_of-result
+invariant_of-result c =
+    let t = c.args.table.now in
+    let counted = sym c.breaks_count.ensures ∙ c.if-breaks_count.false in
+    let headed = sym c.breaks_header.ensures ∙ c.if-breaks_header.false in
+    record {
+      judged = sym (c.in_ok-judge_task.ensures ∙ after_tree t counted headed c.in_ok-judge_value.ensures.refusal c.in_ok-judge_tree.ensures);
+      in_width = c.in_ok-judge_value.ensures.in_width;
+    }

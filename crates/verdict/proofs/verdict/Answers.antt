@@ -1,55 +1,50 @@
 -- `verdict::verdict` meets its contract: the refusals in order, and then the search over the filling. Assumes nothing.
-use mathlib.Core.Path.{refl, ap, ◌∙◌}
-use native.Mathlib.Omega.{arith}
-use Rattle.table.specs.Rules.{refusal}
-use Rattle.table.proofs.Ranged.{ranged}
-use Rattle.bounds.specs.Questions.{queue_refusal}
-use Rattle.search.specs.Answers.{refused_answer}
-use Rattle.verdict.proofs.InOrder.{refuses, horizon_asked, horizon_past, horizon_within, verdict_refused, verdict_given}
-use Rattle.verdict.proofs.Filled.{Prepared, prepared}
+use mathlib.Core.Path.{◌≡◌, sym, ap, subst, subst₂, ◌∙◌}
+use Prim.Native.Nat.{◌≤◌, ◌<◌}
+use Rattle.std.proofs.Common.{rules, Ok, Err, None}
+use Rattle.theory.specs.Search.{lcm_of}
+use Rattle.table.specs.declared.Table.{Table}
+use Rattle.table.specs.declared.well_formed.WellFormedTable.{WellFormedTable}
+use Rattle.table.specs.Table.{tasks_of}
+use Rattle.table.specs.Reasons.{as_refusal}
+use Rattle.multiple.proofs.Multiples.{within_said, past_said}
+use Rattle.bounds.proofs.Refused.{queue_known}
+use Rattle.search.specs.Answers.{Verdict}
+use Rattle.search.specs.Answered.{verdict_answered}
+use Rattle.verdict.specs.Questions.{VerdictAnswers}
+use Rattle.verdict.proofs.InOrder.{multiple, horizon_asked, horizon_past, horizon_within, verdict_refused, verdict_given}
 use Rattle.verdict.proofs.verdict.Goals as goal
-use Rattle.verdict.proofs.verdict.Goals.{Else-refusal-ne-NONE}
 
--- the queue may be asked about, and the slice is filled
-known : (c : Else-refusal-ne-NONE) → Prepared c.args.table c.args.queue c.fill-refusal.new.out c.fill-refusal.result
-known c = prepared c.args.table c.args.queue _ _ _ (ranged c.args.table _ c.well_formed.0) refl c.fill-refusal.ensures
-
-pub returns-then-refusal-ne-NONE : goal.returns-then-refusal-ne-NONE
-returns-then-refusal-ne-NONE c =
+pub returns-in_err-accepted : goal.returns-in_err-accepted
+returns-in_err-accepted c =
     let t = c.args.table in
     let q = c.args.queue in
-    let known = prepared t q _ _ _ (ranged t _ c.well_formed.0) refl c.fill-refusal.ensures in
-    let n = known.refuses c.if-refusal-ne-NONE.true in
-    verdict_refused t q c.refused.result (queue_refusal t q) (horizon_asked t q n) n (c.refused.ensures ∙ ap refused_answer known.asked)
+    let e = c.in_err-accepted.field-0.0 in
+    let given : c.from_residual.result ≡ Err e = search rules in
+    subst (λ r. VerdictAnswers t q (verdict_answered r)) (sym given) (verdict_refused t q e (horizon_asked t q e c.in_err-accepted.ensures.refusal))
 
-pub of_queue-multiple-requires : goal.of_queue-multiple-requires
-of_queue-multiple-requires c = ((known (goal.at.of_queue-multiple-requires c).Else-refusal-ne-NONE).may_ask c.if-refusal-ne-NONE.false).well_formed
-
-pub returns-then-multiple-gt-LIMIT : goal.returns-then-multiple-gt-LIMIT
-returns-then-multiple-gt-LIMIT c =
+pub returns-in_err-multiple : goal.returns-in_err-multiple
+returns-in_err-multiple c =
     let t = c.args.table in
     let q = c.args.queue in
-    let k = known (goal.at.returns-then-multiple-gt-LIMIT c).Else-refusal-ne-NONE in
-    let e = horizon_past t q (k.passes c.if-refusal-ne-NONE.false) (omega (arith, c.of_queue-multiple.ensures, c.if-multiple-gt-LIMIT.true)) in
-    verdict_refused t q c.refused-then-multiple-gt-LIMIT-2.result (refusal 13 0) e (refuses _ 13 (omega arith) refl)
-    (c.refused-then-multiple-gt-LIMIT-2.ensures ∙ ap refused_answer c.refused-then-multiple-gt-LIMIT.ensures)
+    let e = c.whole-past.result in
+    let given : c.from_residual-in_err-multiple.result ≡ Err e = search rules in
+    let none : c.of_queue-2.result ≡ None = search rules in
+    let of_table = ap (λ (u : Table). lcm_of (tasks_of u) q u.period) c.in_ok-accepted.ensures.kept in
+    let past : 1000000 < multiple t q = rw of_table at (past_said _ (sym none ∙ c.of_queue-2.ensures)) in
+    subst (λ r. VerdictAnswers t q (verdict_answered r)) (sym given)
+    (verdict_refused t q e (ap as_refusal c.whole-past.ensures ∙ horizon_past t q c.in_ok-accepted.ensures.refusal past))
 
-pub cycle-cycle-requires : goal.cycle-cycle-requires
-cycle-cycle-requires c =
-    let k = (known (goal.at.cycle-cycle-requires c).Else-refusal-ne-NONE).may_ask c.if-refusal-ne-NONE.false in
-    (k.well_formed, k.some)
-
-pub decide-requires-clause-well_formed : goal.decide-requires-clause-well_formed
-decide-requires-clause-well_formed c = ((known (goal.at.decide-requires-clause-well_formed c).Else-refusal-ne-NONE).may_ask c.if-refusal-ne-NONE.false).well_formed
-
-pub decide-requires-clause-supplied : goal.decide-requires-clause-supplied
-decide-requires-clause-supplied c =
-    (known (goal.at.decide-requires-clause-supplied c).Else-refusal-ne-NONE).supplied c.if-refusal-ne-NONE.false c.cycle-cycle.result c.cycle-cycle.ensures.0
+pub supply_of-supply-requires : goal.supply_of-supply-requires
+supply_of-supply-requires c = (queue_known c.args.table c.args.queue c.in_ok-accepted.ensures.refusal).0
 
 pub returns : goal.returns
 returns c =
     let t = c.args.table in
     let q = c.args.queue in
-    let k = known (goal.at.returns c).Else-refusal-ne-NONE in
-    let e = horizon_within t q (k.passes c.if-refusal-ne-NONE.false) (omega (arith, c.of_queue-multiple.ensures, c.if-multiple-gt-LIMIT.false)) in
-    verdict_given t q c.decide.result e c.decide.ensures.0 c.decide.ensures.1
+    let v = c.decide.result in
+    let s = c.supply_of-supply.ensures in
+    let of_table = ap (λ (u : Table). lcm_of (tasks_of u) q u.period) c.in_ok-accepted.ensures.kept in
+    let within : multiple t q ≤ 1000000 = rw of_table at (within_said _ _ (sym c.in_ok-multiple.ensures.ok_part ∙ c.of_queue-2.ensures)).1 in
+    let says = subst₂ (λ u r. Verdict u r (verdict_answered (Ok v))) (ap (λ (u : WellFormedTable). u.table.now) s.table ∙ c.in_ok-accepted.ensures.kept) s.queue c.decide.ensures in
+    verdict_given t q v (horizon_within t q c.in_ok-accepted.ensures.refusal within) says

@@ -1,97 +1,92 @@
 -- `verdict::wait` meets its contract: the refusals in order, and then the wait from the filling. Assumes nothing.
-use mathlib.Core.Path.{refl, sym, ap, subst, ◌∙◌}
+use mathlib.Core.Path.{◌≡◌, sym, ap, subst, subst₂, ◌∙◌}
+use Prim.Native.Nat.{ℕ, ◌≤◌}
 use native.Mathlib.Omega.{arith}
+use Rattle.std.proofs.Common.{rules, Err}
 use Rattle.theory.specs.Grants.{is}
-use Rattle.theory.specs.Tree.{grants}
+use Rattle.theory.specs.Tree.{grants, CycleLeast}
 use Rattle.theory.specs.Verdict.{Wait}
 use Rattle.theory.specs.Cycles.{cycle_least, system}
-use Rattle.table.specs.declared.Refusal.{Refusal}
+use Rattle.theory.proofs.Period.{cycle_least_law}
+use Rattle.table.specs.declared.Table.{Table}
+use Rattle.table.specs.declared.well_formed.WellFormedTable.{WellFormedTable}
 use Rattle.table.specs.Table.{tree_of}
-use Rattle.table.proofs.Ranged.{ranged}
-use Rattle.verdict.proofs.InOrder.{refuses, asked_fine, within_low, within_high, wait_asked, wait_amount, wait_never, wait_given, refused_answer_law, given_answer}
-use Rattle.verdict.proofs.Filled.{Prepared, prepared}
+use Rattle.table.specs.Reasons.{as_refusal}
+use Rattle.table.proofs.Known.{well_formed}
+use Rattle.supply.specs.declared.queues.Supply.{Supply}
+use Rattle.supply.proofs.Supply.{supplied}
+use Rattle.bounds.specs.Answered.{ticks_answered}
+use Rattle.bounds.proofs.Refused.{queue_known}
+use Rattle.bounds.proofs.Answered.{answer_says}
+use Rattle.verdict.specs.Questions.{WaitAnswer}
+use Rattle.verdict.proofs.InOrder.{refuses, wait_asked, wait_amount, wait_never, wait_given, refused_answer_law}
 use Rattle.verdict.proofs.wait.Goals as goal
-use Rattle.verdict.proofs.wait.Goals.{Else-refusal-ne-NONE}
+use Rattle.verdict.proofs.wait.Goals.{Else-not-contains}
 
--- the queue may be asked about, and the slice is filled
-known : (c : Else-refusal-ne-NONE) → Prepared c.args.table c.args.queue c.fill-refusal.new.out c.fill-refusal.result
-known c = prepared c.args.table c.args.queue _ _ _ (ranged c.args.table _ c.well_formed.0) refl c.fill-refusal.ensures
+-- the cycle least of a queue's supply
+cycle_known : (s : Supply) (t : Table) (q : ℕ) → s.table.now.table.now ≡ t → s.queue ≡ q → CycleLeast (tree_of t) (is q) s.cycle
+cycle_known s t q e f =
+    subst₂ (λ u r. CycleLeast (tree_of u) (is r) s.cycle) e f (supplied s).cycle_least_law
 
-pub returns-then-refusal-ne-NONE : goal.returns-then-refusal-ne-NONE
-returns-then-refusal-ne-NONE c =
+-- an amount that is asked for
+inside : (c : Else-not-contains) → (1 ≤ c.args.ticks) × (c.args.ticks ≤ 65535)
+inside c = search rules
+
+pub returns-in_err-accepted : goal.returns-in_err-accepted
+returns-in_err-accepted c =
     let t = c.args.table in
     let q = c.args.queue in
-    let k = prepared t q _ _ _ (ranged t _ c.well_formed.0) refl c.fill-refusal.ensures in
-    let least = cycle_least (system (tree_of t)) (is q) in
-    let n = k.refuses c.if-refusal-ne-NONE.true in
-    let e = wait_asked t q c.args.ticks least n in
-    record {
-      cycle = least;
-      cycle_least_law = k.cycle_least_law;
-      answer = refused_answer_law _ _ c.told.result (λ p. n (ap (λ (r : Refusal). r.number) (sym e) ∙ p)) (c.told.ensures.0 ∙ (k.asked ∙ sym e)) c.told.ensures.1;
-    }
+    let ticks = c.args.ticks in
+    let e = c.in_err-accepted.field-0.0 in
+    let asked = c.in_err-accepted.ensures.refusal in
+    let given : c.from_residual.result ≡ Err e = search rules in
+    let answer : WaitAnswer t q ticks (ticks_answered (Err e)) =
+    record { cycle = 0; cycle_least_law = λ p. absurd (refuses e _ asked p); answer = refused_answer_law _ _ e (wait_asked t q ticks 0 e asked) } in
+    subst (λ r. WaitAnswer t q ticks (ticks_answered r)) (sym given) answer
 
-pub returns-then-ticks-lt1 : goal.returns-then-ticks-lt1
-returns-then-ticks-lt1 c =
+pub returns-then-not-contains : goal.returns-then-not-contains
+returns-then-not-contains c =
     let t = c.args.table in
     let q = c.args.queue in
-    let k = known (goal.at.returns-then-ticks-lt1 c).Else-refusal-ne-NONE in
+    let ticks = c.args.ticks in
+    let accepted = c.in_ok-accepted.accepted in
     let least = cycle_least (system (tree_of t)) (is q) in
-    let e = wait_amount t q c.args.ticks least (k.passes c.if-refusal-ne-NONE.false) (within_low 1 65535 c.args.ticks c.if-ticks-lt1.true) in
-    record {
+    let law = subst (λ (u : Table). CycleLeast (tree_of u) (is q) (cycle_least (system (tree_of u)) (is q))) c.in_ok-accepted.ensures.kept
+    (cycle_least_law (tree_of accepted.table.now) (well_formed accepted).formed (is q)) in
+    let outside : 1 ≤ ticks → ticks ≤ 65535 → ⊥ = search rules in record {
       cycle = least;
-      cycle_least_law = k.cycle_least_law;
-      answer = refused_answer_law _ _ c.told-then-ticks-lt1.result (refuses _ 11 (omega arith) e) (c.told-then-ticks-lt1.ensures.0 ∙ (c.refused.ensures ∙ sym e)) c.told-then-ticks-lt1.ensures.1;
+      cycle_least_law = λ p. law;
+      answer = refused_answer_law _ _ c.whole.result (ap as_refusal c.whole.ensures ∙ wait_amount t q ticks least c.in_ok-accepted.ensures.refusal outside);
     }
 
-pub returns-then-ticks-gt-TICKS : goal.returns-then-ticks-gt-TICKS
-returns-then-ticks-gt-TICKS c =
+pub supply_of-supply-requires : goal.supply_of-supply-requires
+supply_of-supply-requires c = (queue_known c.args.table c.args.queue c.in_ok-accepted.ensures.refusal).0
+
+pub returns-then-supply-eq0 : goal.returns-then-supply-eq0
+returns-then-supply-eq0 c =
     let t = c.args.table in
     let q = c.args.queue in
-    let k = known (goal.at.returns-then-ticks-gt-TICKS c).Else-refusal-ne-NONE in
-    let least = cycle_least (system (tree_of t)) (is q) in
-    let e = wait_amount t q c.args.ticks least (k.passes c.if-refusal-ne-NONE.false) (within_high 1 65535 c.args.ticks c.if-ticks-gt-TICKS.true) in
-    record {
-      cycle = least;
-      cycle_least_law = k.cycle_least_law;
-      answer = refused_answer_law _ _ c.told-then-ticks-gt-TICKS.result (refuses _ 11 (omega arith) e)
-          (c.told-then-ticks-gt-TICKS.ensures.0 ∙ (c.refused-then-ticks-gt-TICKS.ensures ∙ sym e)) c.told-then-ticks-gt-TICKS.ensures.1;
+    let ticks = c.args.ticks in
+    let s = c.supply_of-supply.result in
+    let is_table = ap (λ (u : WellFormedTable). u.table.now) c.supply_of-supply.ensures.table ∙ c.in_ok-accepted.ensures.kept in
+    let (some, most) = inside (goal.at.returns-then-supply-eq0 c).Else-not-contains in
+    let e = c.whole-then-supply-eq0.result in record {
+      cycle = s.cycle;
+      cycle_least_law = λ p. cycle_known s t q is_table c.supply_of-supply.ensures.queue;
+      answer = refused_answer_law _ _ e (ap as_refusal c.whole-then-supply-eq0.ensures ∙ wait_never t q ticks s.cycle c.in_ok-accepted.ensures.refusal some most c.if-supply-eq0.true);
     }
-
-pub cycle-cycle-requires : goal.cycle-cycle-requires
-cycle-cycle-requires c =
-    let k = (known (goal.at.cycle-cycle-requires c).Else-refusal-ne-NONE).may_ask c.if-refusal-ne-NONE.false in
-    (k.well_formed, k.some)
-
-pub returns-then-cycle-lt1 : goal.returns-then-cycle-lt1
-returns-then-cycle-lt1 c =
-    let k = known (goal.at.returns-then-cycle-lt1 c).Else-refusal-ne-NONE in
-    let n = c.cycle-cycle.result in
-    let e = wait_never c.args.table c.args.queue c.args.ticks n (k.passes c.if-refusal-ne-NONE.false) c.if-ticks-lt1.false c.if-ticks-gt-TICKS.false (omega (arith, c.if-cycle-lt1.true)) in
-    record {
-      cycle = n;
-      cycle_least_law = λ z. (k.supplied c.if-refusal-ne-NONE.false n c.cycle-cycle.ensures.0).cycle_least_law;
-      answer = refused_answer_law _ _ c.told-then-cycle-lt1.result (refuses _ 12 (omega arith) e) (c.told-then-cycle-lt1.ensures.0 ∙ (c.refused-then-cycle-lt1.ensures ∙ sym e)) c.told-then-cycle-lt1.ensures.1;
-    }
-
-pub longest-requires-clause-well_formed : goal.longest-requires-clause-well_formed
-longest-requires-clause-well_formed c = ((known (goal.at.longest-requires-clause-well_formed c).Else-refusal-ne-NONE).may_ask c.if-refusal-ne-NONE.false).well_formed
-
-pub longest-requires-clause-supplied : goal.longest-requires-clause-supplied
-longest-requires-clause-supplied c =
-    (known (goal.at.longest-requires-clause-supplied c).Else-refusal-ne-NONE).supplied c.if-refusal-ne-NONE.false c.cycle-cycle.result c.cycle-cycle.ensures.0
 
 pub returns : goal.returns
 returns c =
     let t = c.args.table in
     let q = c.args.queue in
-    let k = known (goal.at.returns c).Else-refusal-ne-NONE in
-    let n = c.cycle-cycle.result in
-    let p = k.passes c.if-refusal-ne-NONE.false in
-    let waits = Wait (grants (tree_of t)) (is q) c.args.ticks in
-    let e = wait_given t q c.args.ticks n p c.if-ticks-lt1.false c.if-ticks-gt-TICKS.false c.if-cycle-lt1.false in
-    record {
-      cycle = n;
-      cycle_least_law = λ z. (k.supplied c.if-refusal-ne-NONE.false n c.cycle-cycle.ensures.0).cycle_least_law;
-      answer = given_answer _ waits c.told-2.result e (c.told-2.ensures.0 ∙ (k.asked ∙ (asked_fine t q p ∙ sym e))) (subst waits (sym c.told-2.ensures.1) c.longest.ensures);
+    let ticks = c.args.ticks in
+    let s = c.supply_of-supply.result in
+    let is_table = ap (λ (u : WellFormedTable). u.table.now) c.supply_of-supply.ensures.table ∙ c.in_ok-accepted.ensures.kept in
+    let (some, most) = inside (goal.at.returns c).Else-not-contains in
+    let gets : 1 ≤ s.cycle = omega arith in
+    let waits = subst₂ (λ u r. Wait (grants (tree_of u)) (is r) ticks c.longest.result) is_table c.supply_of-supply.ensures.queue c.longest.ensures in record {
+      cycle = s.cycle;
+      cycle_least_law = λ p. cycle_known s t q is_table c.supply_of-supply.ensures.queue;
+      answer = answer_says _ _ c.longest.result (wait_given t q ticks s.cycle c.in_ok-accepted.ensures.refusal some most gets) waits;
     }

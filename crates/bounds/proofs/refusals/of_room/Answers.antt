@@ -1,12 +1,25 @@
--- `bounds::refusals::of_room` meets its contract: the queue's refusal, then the room's. Assumes nothing.
-use mathlib.Core.Path.{ap₂, ◌∙◌}
-use Prim.Native.Nat.{◌*◌}
+use Rattle.std.proofs.Common.{◌≡◌, sym, ap, ◌∙◌, ◌*◌, rules, arith}
 use lib.Dec.{ltb}
-use Rattle.bounds.specs.Questions.{also, fill_refusal}
+use borrow.Author.Tests.{lt-ltb, le-ltb}
+use Rattle.table.specs.Reasons.{as_refusal, outcome}
+use Rattle.bounds.specs.Questions.{refuse_if, queue_refusal, fill_refusal}
+use Rattle.bounds.proofs.Refused.{also_err, also_ok}
 use Rattle.bounds.proofs.refusals.of_room.Goals as goal
 
-pub returns : goal.returns
+pub returns-in_err-accepted-clause-refusal : goal.returns-in_err-accepted-clause-refusal
 unfolding fill_refusal
-returns c =
-    let room = c.args.room in
-    c.also.ensures ∙ ap₂ (λ r n. also r (ltb room (2 * n)) 16) c.of_queue.ensures c.span-entries.ensures.0
+returns-in_err-accepted-clause-refusal c =
+    let given : outcome c.from_residual.result ≡ as_refusal c.in_err-accepted.field-0.0 = search rules in
+    given ∙ also_err (queue_refusal c.args.table.now c.args.queue) (ltb c.args.room (2 * c.args.table.now.period)) 16 c.in_err-accepted.field-0.0 c.in_err-accepted.ensures.refusal
+
+pub returns-then-room-from-clause-refusal : goal.returns-then-room-from-clause-refusal
+unfolding fill_refusal
+returns-then-room-from-clause-refusal c =
+    ap as_refusal c.whole.ensures
+    ∙ (ap (λ b. refuse_if b 16) (sym (lt-ltb c.args.room (2 * c.args.table.now.period) (omega arith)))
+    ∙ also_ok (queue_refusal c.args.table.now c.args.queue) (ltb c.args.room (2 * c.args.table.now.period)) 16 c.in_ok-accepted.ensures.refusal)
+
+pub returns-clause-refusal : goal.returns-clause-refusal
+unfolding fill_refusal
+returns-clause-refusal c =
+    ap (λ b. refuse_if b 16) (sym (le-ltb c.args.room (2 * c.args.table.now.period) (omega arith))) ∙ also_ok (queue_refusal c.args.table.now c.args.queue) (ltb c.args.room (2 * c.args.table.now.period)) 16 c.in_ok-accepted.ensures.refusal

@@ -1,10 +1,7 @@
--- `corners::marks::closes` meets its contract: the loop keeps the marks among the first locations. Assumes nothing.
-use Prim.Native.Nat.{◌-◌, ◌≤◌}
+-- `corners::marks::closes` meets its contract: the loop keeps the marks among the first v locations. Assumes nothing.
+use Rattle.laws.specs.Test.{bit}
 use Rattle.corners.proofs.Closing.{Closing}
 use Rattle.corners.proofs.marks.closes.Given as goal
 
-abbrev pub invariant-loop-next : goal.invariant-loop-next
-invariant-loop-next l = (l.next ≤ l.n) × Closing l.parents l.flags l.ends l.pass l.period l.next l.marks
-
-abbrev pub decreases-loop-next : goal.decreases-loop-next
-decreases-loop-next l = l.n - l.next
+abbrev pub invariant-loop-v : goal.invariant-loop-v
+invariant-loop-v l = Closing l.tree.parents l.tree.flags l.ends (bit l.tree.pass) l.tree.period l.v l.out

@@ -4,7 +4,4 @@ use Rattle.corners.proofs.Resting.{Resting}
 use Rattle.corners.proofs.rest.rests.Given as goal
 
 abbrev pub invariant-loop-v : goal.invariant-loop-v
-invariant-loop-v l = Resting l.parents l.ticks l.flags l.pass l.n l.period l.v l.rests
-
-abbrev pub decreases-loop-v : goal.decreases-loop-v
-decreases-loop-v l = l.v
+invariant-loop-v l = Resting l.tree l.v l.out

@@ -1,5 +1,5 @@
--- `demand::due::of_queue` meets its contract: the loop keeps the demand of the first i tasks, each at most the window. Assumes nothing.
-use Prim.Native.Nat.{ℕ, ◌-◌, ◌*◌, ◌≤◌}
+-- `demand::due::of_queue` meets its contract: the loop keeps the demand of the first tasks, each at most the window. Assumes nothing.
+use Prim.Native.Nat.{ℕ, ◌*◌, ◌≤◌}
 use mathlib.Core.Path.{◌≡◌}
 use lib.Dec.{eqb}
 use Rattle.laws.specs.Test.{pick}
@@ -13,8 +13,5 @@ use Rattle.demand.proofs.due.of_queue.Given as goal
 abbrev pub part : Table → ℕ → ℕ → ℕ → ℕ
 part t q w i = pick (eqb (task_at t i).queue q) (demand_of (as_task (task_at t i)) w) 0
 
-abbrev pub invariant-loop-i : goal.invariant-loop-i
-invariant-loop-i l = (l.i ≤ l.n) × (l.sum ≡ laws.sum (part l.table l.queue l.window) 0 l.i) × (l.sum ≤ l.i * l.window)
-
-abbrev pub decreases-loop-i : goal.decreases-loop-i
-decreases-loop-i l = l.n - l.i
+abbrev pub invariant-loop-task : goal.invariant-loop-task
+invariant-loop-task l = (l.sum ≡ laws.sum (part l.table.table.now l.queue l.window) 0 l.task-index) × (l.sum ≤ l.task-index * l.window)

@@ -1,17 +1,15 @@
-use native.Mathlib.Omega.{arith}
 use Rattle.slice.proofs.Lowering.{lowers_on, lowers_off, until_more}
 use Rattle.filling.specs.Sets.{Inner}
 use Rattle.filling.proofs.walks.inner.Goals as goal
+use Rattle.filling.proofs.walks.inner.Goals.{then-columns-v, else-columns-v}
 
-pub loop-next-preserved-then-closes-v-eq1 : goal.loop-next-preserved-then-closes-v-eq1
-loop-next-preserved-then-closes-v-eq1 c =
-    let l = c.loop-next in
+pub loop-v-preserved : goal.loop-v-preserved
+loop-v-preserved c =
+    let l = c.loop-v in
     let a = c.args in
-    let h = rw (c.long.ensures.0, c.long-then-closes-v-eq1.ensures.0) at c.upward.ensures in
-    (omega arith, until_more _ (Inner a.parents.now a.opens.now a.closes.now a.begins.now a.ends.now a.counts.now) l.next _ _ _ l.invariant.1 (lowers_on _ _ _ _ _ c.if-closes-v-eq1.true h))
-
-pub loop-next-preserved : goal.loop-next-preserved
-loop-next-preserved c =
-    let l = c.loop-next in
-    let a = c.args in
-    (omega arith, until_more _ (Inner a.parents.now a.opens.now a.closes.now a.begins.now a.ends.now a.counts.now) l.next _ _ _ l.invariant.1 (lowers_off _ _ _ _ c.if-closes-v-eq1.false))
+    elim c.if-columns-v.branch [
+      | then-columns-v w ↦
+          let h = rw l.auto.out at w.upward.ensures in
+          rw w.out-is (until_more _ (Inner a.tree.now a.columns.now) l.v _ _ _ l.invariant (lowers_on _ _ _ _ _ w.if-columns-v.true h))
+      | else-columns-v w ↦ rw w.out-is (until_more _ (Inner a.tree.now a.columns.now) l.v _ _ _ l.invariant (lowers_off _ _ _ _ w.if-columns-v.false))
+    ]

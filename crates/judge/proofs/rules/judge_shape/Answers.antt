@@ -1,16 +1,17 @@
-use mathlib.Core.Path.{sym, ◌∙◌}
-use Rattle.table.specs.Rules.{location_place}
-use Rattle.judge.proofs.Agree.{shape_agrees}
-use Rattle.judge.proofs.Lowest.{kept_more, lowest_found, lowest_none}
+use Rattle.std.proofs.Common.{◌≡◌, ◌∙◌, not, ◌&&◌, ◌||◌, rules, arith}
+use lib.Dec.{eqb}
+use Rattle.table.specs.Columns.{leaf_over}
+use Rattle.table.specs.Table.{location_at}
+use Rattle.table.specs.Rules.{is_placed, breaks_shape, location_place}
+use Rattle.judge.proofs.Agree.{shape_read}
 use Rattle.judge.proofs.rules.judge_shape.Goals as goal
 
-pub returns-then-breaks_shape : goal.returns-then-breaks_shape
-returns-then-breaks_shape c =
-    lowest_found 5 location_place c.loop-v.invariant c.loop-v-test.true (sym (c.breaks_shape.ensures ∙ shape_agrees c.args.table c.args.parents.now c.requires.2 c.loop-v.v) ∙ c.if-breaks_shape.true)
-
-pub loop-v-preserved : goal.loop-v-preserved
-loop-v-preserved c =
-    kept_more c.loop-v.invariant c.loop-v-test.true (sym (c.breaks_shape.ensures ∙ shape_agrees c.args.table c.args.parents.now c.requires.2 c.loop-v.v) ∙ c.if-breaks_shape.false)
-
 pub returns : goal.returns
-returns c = c.none.ensures ∙ lowest_none 5 location_place c.loop-v.invariant c.loop-v-test.false
+returns c =
+    let t = c.args.table.now in
+    let g = c.args.guards.now in
+    c.lowest.ensures.refusal (breaks_shape t) location_place
+    (λ v b l h.
+    let says : b ≡ not (is_placed (location_at t v) v && (eqb (location_at t v).variable 0 || not (leaf_over g.parents g.n v))) = search rules in
+    says ∙ shape_read t g c.requires.of_table v)
+    (λ v. omega arith)

@@ -1,11 +1,14 @@
-use mathlib.Core.Path.{sym, ◌∙◌}
-use Rattle.table.specs.Rules.{location_place}
-use Rattle.judge.proofs.Lowest.{lowest_found, lowest_none}
+use Rattle.std.proofs.Common.{◌≤◌, rules}
+use Rattle.std.proofs.lemmas.Result.{IfOk-weaker}
+use Rattle.table.specs.Ranged.{HighInWidth}
+use Rattle.table.specs.Table.{location_at}
 use Rattle.judge.proofs.rules.judge_value.Goals as goal
 
-pub returns-then-breaks_value : goal.returns-then-breaks_value
-returns-then-breaks_value c =
-    lowest_found 4 location_place c.loop-v.invariant c.loop-v-test.true (sym c.breaks_value.ensures ∙ c.if-breaks_value.true)
-
-pub returns : goal.returns
-returns c = c.none.ensures ∙ lowest_none 4 location_place c.loop-v.invariant c.loop-v-test.false
+pub returns-clause-in_width : goal.returns-clause-in_width
+returns-clause-in_width c =
+    IfOk-weaker c.lowest.result _ (λ u. HighInWidth c.args.table.now)
+    (λ u each v l.
+    let told = each v l in
+    let high : (location_at c.args.table.now v).high ≤ 65535 = search rules in
+    high)
+    c.lowest.ensures.unbroken

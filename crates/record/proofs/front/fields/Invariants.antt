@@ -9,12 +9,13 @@ use Rattle.record.specs.Reading.{fields_from, most_fields, fields_of}
 use Rattle.record.proofs.front.fields.Given as goal
 
 abbrev pub invariant-loop-at : goal.invariant-loop-at
-invariant-loop-at l =
-    (l.at ≡ record_length l.table)
-    × (l.table.locations ≤ 128)
-    × (l.table.tasks ≤ 32)
-    × (l.at ≤ length l.s)
-    × (fields_of l.s ≡ fields_from (most_fields - (l.table.locations + l.table.tasks)) l.s l.at l.table)
+invariant-loop-at l = record {
+  taken_up : l.at ≡ record_length l.table;
+  locations_fit : l.table.locations ≤ 128;
+  tasks_fit : l.table.tasks ≤ 32;
+  in_bounds : l.at ≤ length l.s;
+  reads_on : fields_of l.s ≡ fields_from (most_fields - (l.table.locations + l.table.tasks)) l.s l.at l.table;
+}
 
 abbrev pub decreases-loop-at : goal.decreases-loop-at
 decreases-loop-at l = length l.s - l.at

@@ -1,22 +1,18 @@
--- `runner::State::fresh` meets its contract: a refusal's number decides between zeros and the fresh jobs, and a table without one has at most 32 tasks.
--- Assumes nothing.
-use mathlib.Core.Path.{sym, ap, ◌∙◌}
-use Rattle.table.specs.declared.Refusal.{Refusal}
-use Rattle.table.proofs.WellFormed.{judged_counts}
-use Rattle.runner.proofs.Refusals.{fresh_refused, fresh_given}
+-- `runner::State::fresh` meets its contract: the judge's error is the refusal, and a table without one has at most 32 tasks. Assumes nothing.
+use Rattle.std.proofs.lemmas.Result.{err_from_is_err_and}
+use Rattle.table.proofs.Known.{well_formed}
+use Rattle.runner.proofs.Refusals.{fresh_err, fresh_ok}
 use Rattle.runner.proofs.State.fresh.Goals as goal
 
-pub returns-then-refusal-ne-NONE : goal.returns-then-refusal-ne-NONE
-returns-then-refusal-ne-NONE c =
-    let t = c.args.table in
-    let e = c.judge-refusal.ensures in
-    (λ i. record { refusal = e i; state = c.empty.ensures i }) ∙ sym (fresh_refused t (λ z. c.if-refusal-ne-NONE.true (ap (λ (r : Refusal). r.number) e ∙ z)))
+pub returns-in_err-accepted : goal.returns-in_err-accepted
+returns-in_err-accepted c =
+    let p = err_from_is_err_and c.from_residual.result c.from_residual.ensures.1 in
+    rw (p.1, p.2) (fresh_err c.args.table _ c.in_err-accepted.ensures.refusal)
 
-pub fresh-jobs-requires : goal.fresh-jobs-requires
-fresh-jobs-requires c = (judged_counts c.args.table (ap (λ (r : Refusal). r.number) (sym c.judge-refusal.ensures) ∙ c.if-refusal-ne-NONE.false)).1
+pub invariant_of-tasks : goal.invariant_of-tasks
+invariant_of-tasks c = record { few = (well_formed c.in_ok-accepted.accepted).tasks }
 
 pub returns : goal.returns
 returns c =
-    let t = c.args.table in
-    let e = c.judge-refusal.ensures in
-    (λ i. record { refusal = e i; state = record { location = 0; done = 0; jobs = c.fresh-jobs.ensures i } }) ∙ sym (fresh_given t (ap (λ (r : Refusal). r.number) (sym e) ∙ c.if-refusal-ne-NONE.false))
+    let jobs = rw c.in_ok-accepted.ensures.kept at c.fresh.ensures in
+    fresh_ok c.args.table _ c.in_ok-accepted.ensures.refusal (λ i. record { location = 0; done = 0; jobs = jobs i })

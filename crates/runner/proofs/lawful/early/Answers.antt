@@ -1,12 +1,16 @@
-use mathlib.Core.Path.{sym, ◌∙◌}
-use native.Mathlib.Omega.{arith}
-use Rattle.judge.proofs.Lowest.{lowest_found, lowest_none}
+-- `runner::lawful::early` meets its contract: the search finds the lowest task that is released early. Assumes nothing.
+use Rattle.std.proofs.Common.{ℕ, Bool, refl, sym, ◌∙◌, rules, tests}
+use Rattle.std.proofs.lemmas.Iterator.{YieldsList-from_range}
+use Rattle.std.proofs.lemmas.Iterator.Adapters.{option_map_id}
+use Rattle.std.proofs.lemmas.Iterator.Search.{find_from_yields_List}
+use Rattle.jobs.specs.Entries.{job_in}
+use Rattle.runner.specs.Step.{is_early}
+use Rattle.runner.proofs.Passes.{find_first}
 use Rattle.runner.proofs.lawful.early.Goals as goal
 
-pub returns-then-is_early : goal.returns-then-is_early
-returns-then-is_early c =
-    let flag = rw c.is_in.ensures at c.is_early.ensures in
-    lowest_found 15 (λ i. i) c.loop-i.invariant (omega arith) (sym flag ∙ c.if-is_early.true)
-
 pub returns : goal.returns
-returns c = c.none.ensures ∙ lowest_none 15 (λ i. i) c.loop-i.invariant (omega arith)
+returns c =
+    let test : ℕ → Bool = is_early c.args.table.now (job_in c.args.entries.now) c.args.set in
+    sym (option_map_id c.find.result)
+    ∙ (find_from_yields_List test _ _ c.find.result c.find.ensures.ran (YieldsList-from_range 0 32 32 refl refl) (λ x b q k. search (rules, tests))
+    ∙ find_first test 0 32)

@@ -12,7 +12,7 @@ pub mod refusals; // refusals.rt: which question is refused
 use questions::Asked;
 use table::{Refusal, Refused, Table};
 
-// A number of ticks, 0 beside a refusal.
+// A number of ticks for C, 0 beside a refusal.
 #[repr(C)]
 #[derive(Clone, Copy)]
 pub struct TicksAnswer {
@@ -20,6 +20,7 @@ pub struct TicksAnswer {
     pub ticks: u32,
 }
 
+// The same of a whole cycle for C: its fewest and its most.
 #[repr(C)]
 #[derive(Clone, Copy)]
 pub struct CycleAnswer {
@@ -29,7 +30,7 @@ pub struct CycleAnswer {
 }
 
 // The fewest and the most ticks of a whole cycle.
-#[derive(Clone, Copy, Debug, PartialEq, Eq)]
+#[derive(Clone, Copy, Debug, Default, PartialEq, Eq)]
 pub struct CycleTicks {
     pub least: u32,
     pub most: u32,
@@ -41,7 +42,7 @@ impl From<Result<u32, Refused>> for TicksAnswer {
     fn from(answer: Result<u32, Refused>) -> TicksAnswer {
         TicksAnswer {
             refusal: Refusal::from(answer),
-            ticks: answer.unwrap_or(0),
+            ticks: answer.unwrap_or_default(),
         }
     }
 }
@@ -50,7 +51,7 @@ impl From<Result<CycleTicks, Refused>> for CycleAnswer {
     ghost from_gives = { λ r a. a ≡ cycle_answered r };
 
     fn from(answer: Result<CycleTicks, Refused>) -> CycleAnswer {
-        let cycle = answer.unwrap_or(CycleTicks { least: 0, most: 0 });
+        let cycle = answer.unwrap_or_default();
         CycleAnswer {
             refusal: Refusal::from(answer),
             least: cycle.least,

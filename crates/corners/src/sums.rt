@@ -1,4 +1,5 @@
-// Own ticks that pass, and the sum of a column along each path, into lent columns: they are large for a stack.
+// Own ticks that pass, and the sum of a column along each path, into lent columns: they are large for a stack. Each is filled by a
+// loop of one line: a closure for one common loop, with what it returns, would be longer.
 ghost use Rattle.std.specs.Prelude.{◌≡◌, ◌+◌, ◌*◌, ◌<◌, ◌≤◌, length};
 ghost use Rattle.laws.specs.Test.{bit};
 ghost use Rattle.table.specs.Columns.{entry};

@@ -10,14 +10,14 @@ use native.Mathlib.Omega.{arith}
 use lib.ListN.{length, set, replicate, get_or-eq_default}
 use lib.Seq.{get_or-set_same, get_or-set_other}
 use Rattle.laws.specs.Sum.{sum}
-use Rattle.laws.proofs.Test.{le_or_lt, last_or_before}
+use Rattle.laws.proofs.Test.{same_or_not, le_or_lt, last_or_before}
 use Rattle.laws.proofs.Sum.{sum_split₀, sum_same, sum_zero, sum_change, sum_last₀, term_le₀}
 use Rattle.theory.specs.Task.{demand_of}
 use Rattle.theory.proofs.Demand.{demand_of_none}
 use Rattle.table.specs.Columns.{entry}
 use Rattle.slice.proofs.Between.{all_zero}
 use Rattle.demand.specs.declared.series.Series.{Series}
-use Rattle.demand.specs.Ahead.{far, waiting, waiting_for, no_series, series_at, ahead, entered, Enters, Next}
+use Rattle.demand.specs.Ahead.{far, waiting, waiting_for, no_series, series_at, ahead, entered, Enters, Next, SameTask}
 use Rattle.demand.proofs.NextDeadlines.{first_due, ahead_set}
 
 -- the sooner of two deadlines, where there is a first
@@ -84,12 +84,13 @@ module _ (block : List ℕ) (s d gap work : ℕ) (some : 1 ≤ gap) (since : s �
 module _ (n s : ℕ) (series₀ : List Series) (block₀ : List ℕ) where
   -- the first i series have gone past the block, the others not yet
   pub record Advancing (series : List Series) (block : List ℕ) (d : Option ℕ) (i : ℕ) : Type 0 where
+    pub same : (j : ℕ) → SameTask (series_at series j) (series_at series₀ j)
     pub next : Next s series i d
     pub stays : (j : ℕ) → i ≤ j → series_at series j ≡ series_at series₀ j
     pub keeps : (w : ℕ) → entered block s w + ahead series n w ≡ entered block₀ s w + ahead series₀ n w
 
   pub advancing_none : Advancing series₀ block₀ None 0
-  advancing_none = record { next = refl; stays = λ j m. refl; keeps = λ w. refl }
+  advancing_none = record { same = λ j. (refl, refl); next = refl; stays = λ j m. refl; keeps = λ w. refl }
 
   module _ (series : List Series) (block : List ℕ) (d : Option ℕ) (i : ℕ) (h : Advancing series block d i) (l : i < n) where
     pub advancing_small : (w : ℕ) → entered block₀ s w + ahead series₀ n w ≤ far → entered block s w + demand_of (waiting_for (series_at series i)) w ≤ far
@@ -110,8 +111,21 @@ module _ (n s : ℕ) (series₀ : List Series) (block₀ : List ℕ) where
       next_of None d' z m = rw m (e.past, lower later.next (omega arith) (λ j o. absurd (omega arith)))
       next_of (Some d) d' z m = rw m (omega (arith, e.past, z.0), lower (min d later.next) (omega arith) (λ j o. omega (arith, z.1 j o)))
 
+      same_task : (j : ℕ) → SameTask (series_at (set series i later) j) (series_at series₀ j)
+      same_task j = elim (same_or_not j i) [
+        | inl f ↦
+            let old = h.same i in
+            let new = get_or-set_same series i later no_series room in
+            rw f (ap (λ (r : Series). r.gap) new ∙ (e.same_gap ∙ old.0), ap (λ (r : Series). r.work) new ∙ (e.same_work ∙ old.1))
+        | inr o ↦
+            let old = h.same j in
+            let new = there j o in
+            (ap (λ (r : Series). r.gap) new ∙ old.0, ap (λ (r : Series). r.work) new ∙ old.1)
+      ]
+
       pub advancing_more : (d' : Option ℕ) → d' ≡ soonest d later.next → Advancing (set series i later) block' d' (i + 1)
       advancing_more d' m = record {
+        same = same_task;
         next = next_of d d' h.next m;
         stays = λ j o. there j (omega arith) ∙ h.stays j (omega arith);
         keeps = λ w. omega (arith, h.keeps w, e.keeps w, ahead_set series n w i later l room);

@@ -59,7 +59,12 @@ abbrev pub Next : ℕ → List Series → ℕ → Option ℕ → Type 0
 Next s series n None = n ≡ 0
 Next s series n (Some d) = (s + 64 ≤ d) × ((i : ℕ) → i < n → d ≤ (series_at series i).next)
 
+-- Two series of one task.
+abbrev pub SameTask : Series → Series → Type 0
+SameTask r s = (r.gap ≡ s.gap) × (r.work ≡ s.work)
+
 -- The same for the first n series, with the next deadline of all.
 pub record Advances (n s : ℕ) (series series' : List Series) (before after : List ℕ) (d : Option ℕ) : Type 0 where
+  pub same : (i : ℕ) → i < n → SameTask (series_at series' i) (series_at series i)
   pub next : Next s series' n d
   pub keeps : (w : ℕ) → entered after s w + ahead series' n w ≡ entered before s w + ahead series n w

@@ -6,7 +6,7 @@ use crate::due;
 use crate::series::{BLOCK, Series};
 use table::{Table, WellFormedTable};
 
-// One series for each of the queue's own tasks; past `count` they mean nothing.
+// One series for each of the queue's own tasks; past `count` they mean nothing. An array with a count, since there is no heap.
 #[derive(Clone, Copy)]
 pub struct Deadlines {
     pub series: [Series; Table::TASKS],

@@ -6,7 +6,8 @@ ghost use Rattle.demand.specs.Listed.{Lists};
 
 use table::{Task, WellFormedTable};
 
-// The tasks that count.
+// The tasks that count. The queue's own are picked where they are used: a filtered iterator cannot be returned, since its closure's
+// type has no name.
 pub fn tasks<'a>(table: &WellFormedTable<'a>) -> &'a [Task]
     ensures { Lists table.now.table.now result.now }
 {

@@ -28,7 +28,7 @@ impl Series {
         }
     }
 
-    // The work of each deadline in the block that begins at `start`: the next deadline is then past the block.
+    // The work of each deadline in the block that begins at `start`, from deadline to deadline: the next one is then past the block.
     pub fn enter(&mut self, start: u32, block: &mut [u32; BLOCK])
         requires in_bounds { (start ≤ 1000000) × (start ≤ self.old.next) × (1 ≤ self.old.gap) × (self.old.gap ≤ 65535) }
         requires fits { (w : ℕ) → w < start + 64 → entered block.old start w + demand_of (waiting_for self.old) w ≤ far }

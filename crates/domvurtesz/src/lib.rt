@@ -1,5 +1,5 @@
 // What C and Rust link: each question under one prefix, over numbers, lent slices and structs by value.
-// Each function repeats the contract of the one that it calls.
+// Each function converts what the one that it calls returns, and its contract says what C is given.
 #![tactic(auto)]
 
 mod steps; // steps.rt: the fresh state and the step

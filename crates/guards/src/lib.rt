@@ -62,17 +62,16 @@ impl Guards {
         paths::is_leaf(&self.parents, self.n, v)
     }
 
-    // The first child of v whose guard holds x, or 0: the root is nobody's child.
+    // The first child of v whose guard holds x, or 0, as the definition says it: the root is nobody's child, and follows where
+    // there is no child.
     pub fn onto(&self, v: usize, x: u16) -> usize
         requires { v < 128 }
         ensures { result ≡ onto (guards_of self.now) v x }
     {
         let name = v as u8;
         for u in 1..self.n {
-            if self.parents[u] == name {
-                if holds(self.lows[u], self.highs[u], x) {
-                    return u;
-                }
+            if self.parents[u] == name && holds(self.lows[u], self.highs[u], x) {
+                return u;
             }
         }
         0

@@ -86,8 +86,8 @@ impl Job {
         };
         Job {
             since: self.since.saturating_add(1).min(task.gap),
-            remaining: self.remaining,
             left,
+            ..self
         }
     }
 

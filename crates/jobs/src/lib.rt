@@ -48,7 +48,8 @@ impl<'a> Tasks<'a> {
         })
     }
 
-    // Rule 2: of the jobs of the queue with work the one with the least left, of equals the lower task.
+    // Rule 2: of the jobs of the queue with work the one with the least left, of equals the lower task, which the contract of
+    // `min_by_key` leaves open.
     pub fn earliest(&self, entries: &[Job; Table::TASKS], queue: u8) -> Option<usize>
         ensures { result ≡ choice_of (earliest (tasks_of self.now.table.now) queue (job_in entries.now)) }
     {

@@ -16,8 +16,7 @@ pub struct Row {
 pub fn of_queue(table: Table, queue: u32) -> Row
     ensures { Says table queue result }
 {
-    let none = CycleTicks { least: 0, most: 0 };
-    let CycleTicks { least, most } = bounds::cycle(table, queue).unwrap_or(none);
+    let CycleTicks { least, most } = bounds::cycle(table, queue).unwrap_or_default();
     let verdict = verdict::verdict(table, queue);
     Row {
         least,

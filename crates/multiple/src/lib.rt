@@ -13,7 +13,7 @@ use table::WellFormedTable;
 // The largest multiple for which there is a verdict.
 const LIMIT: u32 = 1_000_000;
 
-// The first multiple of `base` that `gap` divides.
+// The first multiple of `base` that `gap` divides: the loop goes from multiple to multiple, and counts none.
 fn common(base: u32, gap: u32) -> Option<u32>
     requires in_bounds { (1 ≤ base) × (base ≤ 1000000) × (1 ≤ gap) × (gap ≤ 65535) }
     ensures { result ≡ within_limit (lcm base gap) }

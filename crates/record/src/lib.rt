@@ -37,7 +37,7 @@ impl From<Result<Table, Refused>> for ReadAnswer {
 }
 
 // A part of a record.
-#[derive(Clone, Copy, Debug, PartialEq, Eq)]
+#[derive(Clone, Copy, Debug, Default, PartialEq, Eq)]
 pub struct Part {
     pub offset: usize,
     pub length: usize,
@@ -57,10 +57,7 @@ impl From<Result<Part, Refused>> for FieldAnswer {
 
     fn from(answer: Result<Part, Refused>) -> FieldAnswer {
         let refusal = Refusal::from(answer);
-        let Part { offset, length } = answer.unwrap_or(Part {
-            offset: 0,
-            length: 0,
-        });
+        let Part { offset, length } = answer.unwrap_or_default();
         FieldAnswer {
             refusal,
             offset,

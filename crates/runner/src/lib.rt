@@ -23,7 +23,7 @@ pub struct State {
 }
 
 // The queue granted, the task that is served if any is, and the late set.
-#[derive(Clone, Copy, Debug, PartialEq, Eq)]
+#[derive(Clone, Copy, Debug, Default, PartialEq, Eq)]
 pub struct Granted {
     pub queue: u8,
     pub task: Option<u8>,
@@ -105,11 +105,7 @@ impl StepAnswer {
     pub fn of(state: State, given: Result<Granted, Refused>) -> StepAnswer
         ensures { result ≡ step_answered state given }
     {
-        let granted = given.unwrap_or(Granted {
-            queue: 0,
-            task: None,
-            late: 0,
-        });
+        let granted = given.unwrap_or_default();
         StepAnswer {
             refusal: Refusal::from(given),
             state,

@@ -12,8 +12,8 @@ pub const FILLING: usize = 2048;
 
 // The least of a window: below two periods an entry, and past them each period more adds the least of a cycle.
 pub fn at(filled: &[u32; FILLING], period: u16, cycle: u32, window: u32) -> u32
-    requires le_period { (1 ≤ period) × (period ≤ 1024) × (cycle ≤ 1024) × (window ≤ 2000000) }
-    requires by_index { (w : ℕ) → w < 2 * period → entry filled.now w ≤ 2048 }
+    requires in_bounds { (1 ≤ period) × (period ≤ 1024) × (cycle ≤ 1024) × (window ≤ 2000000) }
+    requires filled_in_bounds { (w : ℕ) → w < 2 * period → entry filled.now w ≤ 2048 }
     ensures { result ≡ supply_at filled.now period cycle window }
 {
     let turn = u32::from(period);

@@ -1,4 +1,4 @@
--- `guards::has_gap` meets its contract: the loop keeps that each value below x is in some child's guard, and x rises to past the
+-- `Guards::has_gap` meets its contract: the loop keeps that each value below x is in some child's guard, and x rises to past the
 -- high of the child that holds it. Assumes nothing.
 use Prim.Native.Nat.{suc, ◌-◌, ◌≤◌}
 use Rattle.theory.specs.Guards.{top}

@@ -1,4 +1,4 @@
--- `guards::has_overlap` meets its contract, by the law on widths. Assumes nothing.
+-- `Guards::has_overlap` meets its contract, by the law on widths. Assumes nothing.
 use mathlib.Core.Path.{ap, ◌∙◌}
 use lib.Dec.{ltb}
 use Rattle.guards.specs.Lent.{guards_of}

@@ -1,4 +1,4 @@
--- `guards::onto` meets its contract: the loop keeps that no location below u leads on with x. Assumes nothing.
+-- `Guards::onto` meets its contract: the loop keeps that no location below u leads on with x. Assumes nothing.
 use Prim.Native.Nat.{◌≤◌}
 use Rattle.guards.specs.Lent.{guards_of}
 use Rattle.guards.proofs.Held.{NoneBelow}

@@ -1,4 +1,4 @@
--- `guards::widths` meets its contract: the loop keeps the sum over the locations below u, at most 65,536 for each. Assumes nothing.
+-- `Guards::widths` meets its contract: the loop keeps the sum over the locations below u, at most 65,536 for each. Assumes nothing.
 use Prim.Native.Nat.{◌*◌, ◌≤◌}
 use mathlib.Core.Path.{◌≡◌}
 use Rattle.guards.specs.Lent.{guards_of}

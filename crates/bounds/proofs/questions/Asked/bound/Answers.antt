@@ -10,11 +10,11 @@ use Rattle.bounds.proofs.questions.Asked.bound.Goals as goal
 pub leasts-requires : goal.leasts-requires
 leasts-requires c = omega (arith, (well_formed c.args.self.now.table).period)
 
-pub at-requires-clause-le_period : goal.at-requires-clause-le_period
-at-requires-clause-le_period c = let p = (well_formed c.args.self.now.table).period in (p.0, p.1, omega (arith, p, c.cycle.ensures.upper_bound), c.requires)
+pub at-requires-clause-in_bounds : goal.at-requires-clause-in_bounds
+at-requires-clause-in_bounds c = let p = (well_formed c.args.self.now.table).period in (p.0, p.1, omega (arith, p, c.cycle.ensures.upper_bound), c.requires)
 
-pub at-requires-clause-by_index : goal.at-requires-clause-by_index
-at-requires-clause-by_index c w l =
+pub at-requires-clause-filled_in_bounds : goal.at-requires-clause-filled_in_bounds
+at-requires-clause-filled_in_bounds c w l =
     let a = c.args in
     let t = well_formed a.self.now.table in
     omega (arith, c.leasts.ensures.each w (omega (arith, l)), least_small (tree_of a.self.now.table.table.now) t.formed (asks a.self.now.own a.self.now.queue) w, t.period)

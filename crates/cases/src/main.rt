@@ -71,7 +71,7 @@ fn line(rt: &impl Print, question: Question) -> io::Result<()> {
     println!(rt)
 }
 
-// What is cut before the end of its question is answered as no bytes are.
+// From question to question. What is cut before the end of its question is answered as no bytes are.
 fn lines(rt: &impl Print, bytes: &[u8]) -> io::Result<()> {
     let mut rest = bytes;
     while let Some((question, after)) = questions::first(rest) {

@@ -7,7 +7,7 @@ ghost use Rattle.corners.specs.Lent.{Lent, flag, own_over};
 
 use table::Table;
 
-// A location passes where its flag is the one asked for.
+// A location passes where its flag is the one asked for. One array for each column, as in `Columns`.
 #[derive(Drop)]
 pub struct LentTree {
     pub parents: [u8; Table::LOCATIONS],

@@ -14,6 +14,7 @@ fn opens_at(tree: &LentTree, v: usize) -> bool
     v == 0 || !tree.passes(v) && tree.passes(tree.parent(v))
 }
 
+// A loop of one line, as in sums.rt.
 pub fn opens(tree: &LentTree, out: &mut [bool; Table::LOCATIONS])
     ensures { Marks tree.now.locations (opens_over tree.now.parents tree.now.flags (bit tree.now.pass)) out.new }
 {

@@ -13,7 +13,7 @@ pub enum Kind {
     Task,
 }
 
-// Has the field at `at` this tag and length?
+// Has the field at `at` this tag and length? A field is told by its place in the whole record, as the definitions tell it.
 fn is_field(s: &[u8], at: usize, tag: u8, len: u16) -> bool
     requires { at + 3 ≤ length s.now }
     ensures { result ≡ is_field s.now at tag len }

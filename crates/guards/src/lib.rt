@@ -7,7 +7,8 @@ ghost use Rattle.guards.specs.Children.{guards_over};
 
 use table::{Table, columns, paths};
 
-// What the guards of a table's locations are read from: parents, lows and highs of n locations, each guard with some value.
+// What the guards of a table's locations are read from: parents, lows and highs of n locations, each guard with some
+// value. One array for each column: a look for children reads the parents alone.
 #[derive(Clone, Copy)]
 pub struct Guards {
     pub parents: [u8; Table::LOCATIONS],

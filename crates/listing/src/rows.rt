@@ -5,7 +5,7 @@ use bounds::CycleTicks;
 use search::Verdict;
 use table::{Refused, Table};
 
-// Zeros where the cycle is refused. Where the table and the queue are right, a verdict is refused beyond the horizon alone.
+// Zeros where the cycle is refused, which no queue of a table that was read is. Where the table and the queue are right, a verdict is refused beyond the horizon alone.
 #[derive(Clone, Copy)]
 pub struct Row {
     pub least: u32,

@@ -37,6 +37,7 @@ pub(crate) fn fields(s: &[u8]) -> Result<Table, Refused>
     placed(refusals::whole_header(s), 0)?;
     let mut table = payload::header(&s[format::PAYLOAD..]);
     let mut at = format::HEADER_FIELD;
+    // From field to field: what was met says how far.
     while at < s.len() {
         let met = refusals::whole_field(s, at, table.locations, table.tasks);
         let kind = placed(met, at)?;

@@ -75,7 +75,7 @@ pub fn read(bytes: &[u8]) -> Result<Table, Refused>
     Ok(table)
 }
 
-// The payload of field k, as a part of the record; an empty part where the question is refused.
+// The payload of field k, as a part of the record; an empty part where the question is refused, as docs/RULES.md has it.
 #[tactic(auto, using(crate::proofs::Question::part_within))]
 pub fn field<'a>(bytes: &'a [u8], k: usize) -> &'a [u8]
     ensures result_value { result.now ≡ part_of bytes.now k }
@@ -98,7 +98,7 @@ pub fn field_place(bytes: &[u8], k: usize) -> Result<Part, Refused>
     Ok(offsets::payload(&table, k))
 }
 
-// Why the question for field k is refused, and where; nothing where `field` gives the payload.
+// Why the question for field k is refused, and where, in numbers beside the part: 0 and 0 where `field` gives the payload.
 pub fn field_refusal(bytes: &[u8], k: usize) -> Refusal
     ensures { result ≡ field_refusal bytes.now k }
 {

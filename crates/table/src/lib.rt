@@ -34,7 +34,7 @@ pub struct Task {
     pub gap: u16,
 }
 
-// `locations` and `tasks` say how many entries count; what lies past them means nothing.
+// `locations` and `tasks` say how many entries count; what lies past them means nothing. C has the arrays and the counts so.
 #[repr(C)]
 #[derive(Clone, Copy)]
 pub struct Table {
@@ -108,6 +108,7 @@ pub struct Refusal {
 }
 
 impl Refusal {
+    // Number 0: C is told that nothing is refused.
     pub fn none() -> Refusal
         ensures { result ≡ fine }
     {

@@ -10,7 +10,7 @@ ghost use Rattle.waits.specs.Reaches.{Reaches};
 
 use supply::queues::Supply;
 
-// The first of the windows whose least reaches `ticks`, or their number: there is one where it is asked for.
+// The first of the windows whose least reaches `ticks`, or their number where there is none, as `Reaches` says it.
 fn reach(leasts: &[u32], ticks: u32) -> usize
     ensures { Reaches leasts.now (length leasts.now) ticks result }
 {

@@ -28,7 +28,7 @@ impl From<Result<usize, Refused>> for WriteAnswer {
     }
 }
 
-// A number of two bytes, the higher first.
+// A number of two bytes, the higher first. The contract says what changes in the slice, so the place in it is handed on too.
 fn put_number(s: &mut [u8], at: usize, x: u16)
     requires { at + 2 ≤ length s.old }
     ensures { s.new ≡ sets s.old at (high_byte x ∷ low_byte x ∷ []) }

@@ -4,7 +4,7 @@ use Rattle.table.proofs.Known.{well_formed}
 use Rattle.demand.proofs.due.tasks.Goals as goal
 
 pub shared_ref_as_front-result : goal.shared_ref_as_front-result
-shared_ref_as_front-result c = (well_formed c.args.table.now).tasks
+shared_ref_as_front-result c = omega (arith, (well_formed c.args.table.now).tasks)
 
 pub returns : goal.returns
 returns c =

@@ -10,12 +10,18 @@ use Rattle.theory.proofs.Bounds.{most_of_least}
 use Rattle.theory.proofs.Runs.{tree_least}
 use Rattle.theory.proofs.Period.{cycle_least_law, cycle_most_of_least}
 use Rattle.table.specs.declared.Refusal.{Refusal}
-use Rattle.table.specs.Rules.{fine}
 use Rattle.bounds.specs.Flagged.{asks}
 use Rattle.bounds.specs.Questions.{Answer}
 
-pub answer_says : (r : Refusal) (A : ℕ → Type 0) (m : ℕ) → fine ≡ r → A m → Answer r A (record { refusal = fine; ticks = m })
-answer_says r A m e s = record { refusal = e; says = λ z. s; silent = λ z. absurd (z (sym (ap (λ (x : Refusal). x.number) e))) }
+module _ (r a : Refusal) (A : ℕ → Type 0) (e : a ≡ r) where
+  number_is : r.number ≡ a.number
+  number_is = ap (λ (x : Refusal). x.number) (sym e)
+
+  pub answer_refused : (a.number ≡ 0 → ⊥) → Answer r A (record { refusal = a; ticks = 0 })
+  answer_refused n = record { refusal = e; says = λ z. absurd (n (sym number_is ∙ z)); silent = λ z. refl }
+
+  pub answer_says : (m : ℕ) → a.number ≡ 0 → A m → Answer r A (record { refusal = a; ticks = m })
+  answer_says m z s = record { refusal = e; says = λ y. s; silent = λ y. absurd (y (number_is ∙ z)) }
 
 module _ (t : Tree) (formed : Formed t) (q m : ℕ) where
   least_by : (p p' : ℕ → Bool) (w : ℕ) → p ≡ p' → m ≡ least_of (system t) p w → Least (grants t) p' w m

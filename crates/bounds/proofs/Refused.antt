@@ -13,8 +13,10 @@ use Rattle.table.specs.declared.Refusal.{Refusal}
 use Rattle.table.specs.declared.refused.Refused.{Refused}
 use Rattle.table.specs.Reasons.{as_refusal}
 use Rattle.table.proofs.Reasons.{not_zero}
-use Rattle.table.specs.Rules.{within, fine, judged}
+use Rattle.table.specs.Ranged.{Ranged}
+use Rattle.table.specs.Rules.{within, fine, judged, WellFormed}
 use Rattle.table.proofs.Unbroken.{unbroken, unbroken_fine}
+use Rattle.table.proofs.WellFormed.{judged_well_formed}
 use Rattle.bounds.specs.Questions.{refuse_if, also, queue_refusal, window_refusal, fill_refusal}
 
 -- nothing is refused
@@ -94,3 +96,34 @@ module _ (t : Table) (q : ℕ) where
   room_known room e =
       let (z, f) = also_none (queue_refusal t q) (ltb room (2 * t.period)) 15 (passes _ e) in
       ((queue_known (queue_fine z)).0, omega (arith, ltb-false room (2 * t.period) f))
+
+-- ---- what an answer of number 0 says
+
+pub record Asked (t : Table) (q : ℕ) : Type 0 where
+  pub well_formed : WellFormed t
+  pub some : 1 ≤ q
+  pub known : q ≤ t.queues
+
+module _ (t : Table) (ranged : Ranged t) (q : ℕ) where
+  pub queue_asked : (queue_refusal t q).number ≡ 0 → Asked t q
+  unfolding queue_refusal
+  queue_asked z =
+      let (e, f) = also_none (judged t) (not (within 1 t.queues q)) 9 z in
+      let w = not_not (within 1 t.queues q) (of_false (not (within 1 t.queues q)) f) in
+      record {
+        well_formed = judged_well_formed t (λ v l. omega (arith, (ranged.location v).high)) (unbroken_fine t (unbroken t e));
+        some = leb→le 1 q (and_left (leb 1 q) _ w);
+        known = leb→le q t.queues (and_right (leb 1 q) _ w);
+      }
+
+  pub window_asked : (w : ℕ) → (window_refusal t q w).number ≡ 0 → Asked t q × (w ≤ 2000000)
+  unfolding window_refusal
+  window_asked w z =
+      let (e, f) = also_none (queue_refusal t q) (ltb 2000000 w) 10 z in
+      (queue_asked e, omega (arith, ltb-false 2000000 w f))
+
+  pub room_asked : (room : ℕ) → (fill_refusal t q room).number ≡ 0 → Asked t q × (2 * t.period ≤ room)
+  unfolding fill_refusal
+  room_asked room z =
+      let (e, f) = also_none (queue_refusal t q) (ltb room (2 * t.period)) 15 z in
+      (queue_asked e, omega (arith, ltb-false room (2 * t.period) f))

@@ -2,7 +2,8 @@
 //
 // A question has: length of its name (1 byte), kind (1), two numbers (4 each), lengths of the steps (2) and of the record (2); then
 // name, steps and record.
-ghost use Rattle.std.specs.Prelude.{◌<◌, length, IfSome};
+ghost use Rattle.std.specs.Prelude.{◌<◌, length, IfSome, MatchOption};
+ghost use Rattle.cases.specs.Questions.{question_length, IsFirst};
 
 // What is asked of the table that a record holds: the kind, and two numbers and the runner's steps for the kinds that take them.
 #[derive(Clone, Copy)]
@@ -17,7 +18,8 @@ pub struct Question<'a> {
 
 // The first question and what follows it; nothing where the bytes are cut before its end.
 pub fn first<'a>(bytes: &'a [u8]) -> Option<(Question<'a>, &'a [u8])>
-    ensures { IfSome result (λ p. length p.1.now < length bytes.now) }
+    ensures question { MatchOption result (length bytes.now < question_length bytes.now) (λ p. IsFirst bytes.now p.0 p.1.now) }
+    ensures shorter { IfSome result (λ p. length p.1.now < length bytes.now) }
 {
     let ([name, kind], rest) = bytes.split_first_chunk::<2>()?;
     let (first, rest) = rest.split_first_chunk()?;

@@ -1,7 +1,7 @@
 // Questions about a record: its table read and written again, and one field's payload.
 use crate::answers::answer;
 use std::io;
-use table::Table;
+use table::{Refusal, Table};
 use words::words;
 
 // The bytes lent to the writer, and what they hold before.
@@ -9,9 +9,14 @@ pub const LENT: usize = 2048;
 
 const FILLED: u8 = 7;
 
-// The payload of field k; the part of a refused question is empty.
+// The payload of field k, after the numbers beside it; the part of a refused question is empty.
 pub fn field(rt: &impl Print, bytes: &[u8], k: usize) -> io::Result<()> {
-    answer(rt, record::field_place(bytes, k).map(|_| "accepted"))?;
+    let Refusal { number, place } = record::field_refusal(bytes, k);
+    if number == 0 {
+        print!(rt; " accepted")?;
+    } else {
+        print!(rt; " refused {number} {place}")?;
+    }
     words(rt, record::field(bytes, k))
 }
 

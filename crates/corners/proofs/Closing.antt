@@ -31,7 +31,7 @@ mark_there : (xs : List Bool) (k i : ℕ) (x : Bool) → (i ≡ k → ⊥) → m
 mark_there xs k i x n = get_or-set_other xs k i x false n
 
 -- an array without marks
-no_mark : (n i : ℕ) → marked (replicate n false) i ≡ false
+pub no_mark : (n i : ℕ) → marked (replicate n false) i ≡ false
 no_mark n i = elim (le_or_lt n i) [
   | inl h ↦ get_or-eq_default (replicate n false) false (omega (arith, length-replicate {A = Bool} n false))
   | inr h ↦ get_or-replicate n i false false h
@@ -89,8 +89,8 @@ module _ (parents : List ℕ) (flags : List Bool) (ends : List ℕ) (pass period
     pub each : Marks v (mark v) marks
     pub fresh : (w : ℕ) → v ≤ w → marked marks w ≡ false
 
-  pub closing_none : Closing 0 (replicate 128 false)
-  closing_none = record { long = length-replicate 128 false; each = λ w l. absurd (omega arith); fresh = λ w l. no_mark 128 w }
+  pub closing_none : (marks : List Bool) → length marks ≡ 128 → ((w : ℕ) → marked marks w ≡ false) → Closing 0 marks
+  closing_none marks e f = record { long = e; each = λ w l. absurd (omega arith); fresh = λ w l. f w }
 
   module _ (v : ℕ) (marks : List Bool) (small : v < 128) (falls : Falls (entry parents) (v + 1)) (h : Closing v marks) where
     pub closing_passes : is pass (flag flags v) ≡ true → Closing (v + 1) marks

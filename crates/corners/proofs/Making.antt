@@ -24,8 +24,8 @@ module _ (t : LentTree) where
   abbrev p : ℕ → Bool
   p = asked_by t
 
-  pub begins_below : (begins : List ℕ) → Entries t.locations (start tree) begins → Below t.locations 1024 begins
-  begins_below begins b v l = omega (arith, b v l, starts_in_cycle tree t.lent.formed v l, t.lent.short)
+  pub begins_below : (begins : List ℕ) → Entries t.locations (start tree) begins → Below t.locations t.period begins
+  begins_below begins b v l = omega (arith, b v l, starts_in_cycle tree t.lent.formed v l)
 
   pub ends_are : (begins ends : List ℕ) → Entries t.locations (start tree) begins → Entries t.locations (λ v. entry begins v + entry t.ticks v) ends
       → Entries t.locations (end tree) ends

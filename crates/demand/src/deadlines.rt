@@ -3,7 +3,8 @@ ghost use Rattle.std.specs.Prelude.{◌≡◌, ℕ, ◌+◌, ◌≤◌, ◌<◌}
 ghost use Rattle.demand.specs.Ahead.{far, series_at, ahead, entered, LaidOut, Advances};
 
 use crate::due;
-use crate::series::{BLOCK, Series};
+pub use crate::series::BLOCK;
+use crate::series::Series;
 use table::{Table, WellFormedTable};
 
 // One series for each of the queue's own tasks; past `count` they mean nothing. An array with a count, since there is no heap.

@@ -16,7 +16,7 @@ use Rattle.theory.specs.Points.{Above, self, below, rest, Point, empty, within, 
 use Rattle.theory.specs.Points as points
 use Rattle.theory.specs.Filling.{filling}
 use Rattle.theory.proofs.Paths.{before_root, some_tick}
-use Rattle.theory.proofs.Above.{above_inside}
+use Rattle.theory.proofs.Above.{above_inside, above_upto}
 use Rattle.theory.proofs.Period.{cycle_least_law}
 use Rattle.theory.proofs.Points.{own_no, rest_le, bound}
 use Rattle.theory.proofs.Rest.{rest_root}
@@ -50,6 +50,12 @@ module _ (t : LentTree) (k : Columns) (made : Made t k) where
 
   abbrev last : ℕ
   last = 2 * period - 1
+
+  -- sums along a path never fall
+  pub rises : (v a : ℕ) → v < n → Above tree a v → (entry k.begins a ≤ entry k.ends v) × (entry k.counts a ≤ entry k.counts v)
+  rises v a l h =
+      let s = above_inside tree formed.falls v h l in
+      (omega (arith, made.ends v l, made.begins a s, above_upto tree formed.falls (entry t.ticks) v h l), omega (arith, made.counts v l, made.counts a s, above_upto tree formed.falls (own tree p) v h l))
 
   -- ---- what the marks say
 

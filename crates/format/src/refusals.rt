@@ -22,7 +22,7 @@ fn is_field(s: &[u8], at: usize, tag: u8, len: u16) -> bool
 }
 
 // A location may come before any task.
-fn is_location(s: &[u8], at: usize, tasks: usize) -> bool
+pub fn is_location(s: &[u8], at: usize, tasks: usize) -> bool
     requires { at + 3 ≤ length s.now }
     ensures { result ≡ is_location s.now at tasks }
 {

@@ -44,7 +44,7 @@ impl Guards {
 
     pub fn of(table: &Table) -> Guards
         requires in_bounds { (1 ≤ table.now.locations) × (table.now.locations ≤ 128) }
-        requires some_value { (v : ℕ) → v < table.now.locations → (location_at table.now v).low ≤ (location_at table.now v).high }
+        requires some_value { (v : ℕ) → 0 < v → v < table.now.locations → (location_at table.now v).low ≤ (location_at table.now v).high }
         requires in_width { HighInWidth table.now }
         ensures { ReadFrom table.now result }
     {

@@ -5,13 +5,15 @@ use mathlib.Core.List.{List}
 use Prim.Native.Nat.{ℕ, ◌≤◌, ◌<◌}
 use native.Mathlib.Omega.{arith}
 use lib.Dec.{T, eqb, leb, leb→le, ltb, ltb→lt}
-use Rattle.laws.specs.Found.{Found, first}
+use Rattle.laws.specs.Found.{first}
 use Rattle.laws.proofs.Test.{and_left, and_right}
 use Rattle.laws.proofs.Climb.{Falls}
 use Rattle.laws.proofs.Cases.{of_false, not_not}
 use Rattle.theory.specs.Tree.{is_leaf, end}
+use Rattle.theory.proofs.Guards.{SomeValue}
 use Rattle.table.specs.declared.Table.{Table}
 use Rattle.table.specs.Table.{location_at, tree_of}
+use Rattle.table.specs.Ranged.{Ranged}
 use Rattle.table.specs.Columns.{parent_column, ticks_column, low_column, high_column, entry, zeros, tree_over, leaf_over, misses_period}
 use Rattle.table.specs.Rules.{within, is_placed, breaks_count, breaks_value, breaks_shape, breaks_gap, breaks_overlap, breaks_period, lowest_location}
 use Rattle.table.proofs.Copied.{column_entry}
@@ -37,6 +39,14 @@ module _ (t : Table) where
 
   -- ---- the rules
 
+  -- VALUE: each guard holds some value
+  pub low_first : ((v : ℕ) → v < t.locations → T (not (breaks_value t v))) → (v : ℕ) → v < t.locations → (location_at t v).low ≤ (location_at t v).high
+  low_first n v s =
+      let a = location_at t v in
+      let ok = not_not (within 1 1024 a.ticks && (leb a.queue t.queues && (leb a.variable 7 && leb a.low a.high))) (n v s) in
+      let rest = and_right (leb a.queue t.queues) (leb a.variable 7 && leb a.low a.high) (and_right (within 1 1024 a.ticks) _ ok) in
+      leb→le a.low a.high (and_right (leb a.variable 7) (leb a.low a.high) rest)
+
   module _ (parents : List ℕ) (p : parents ≡ parent_column t) where
     pub leaf_agrees : (v : ℕ) → leaf_over parents t.locations v ≡ is_leaf (tree_of t) v
     leaf_agrees v = ap (λ f. is_leaf (tree_over t.locations f zeros zeros zeros) v) (ap entry p ∙ parent_is)
@@ -50,6 +60,27 @@ module _ (t : Table) where
         let k' = ap entry k ∙ ticks_is in
         λ i. first (λ v. is_leaf (tree_over t.locations (p' i) zeros zeros zeros) v && not (eqb (end (tree_over 0 (p' i) (k' i) zeros zeros) v) t.period)) 0 t.locations
 
+    module _ (lows highs : List ℕ) (l : lows ≡ low_column t) (h : highs ≡ high_column t) where
+      pub gap_agrees : first (gap_in (guards_over parents lows highs t.locations)) 0 t.locations ≡ lowest_location t breaks_gap
+      gap_agrees =
+          let p' = ap entry p ∙ parent_is in
+          let l' = ap entry l ∙ low_is in
+          let h' = ap entry h ∙ high_is in
+          λ i. first (gap_in (tree_over t.locations (p' i) zeros (l' i) (h' i))) 0 t.locations
+
+      pub overlap_agrees : first (overlap_in (guards_over parents lows highs t.locations)) 0 t.locations ≡ lowest_location t breaks_overlap
+      overlap_agrees =
+          let p' = ap entry p ∙ parent_is in
+          let l' = ap entry l ∙ low_is in
+          let h' = ap entry h ∙ high_is in
+          λ i. first (overlap_in (tree_over t.locations (p' i) zeros (l' i) (h' i))) 0 t.locations
+
+      pub some_value : Ranged t → ((v : ℕ) → v < t.locations → T (not (breaks_value t v))) → SomeValue (guards_over parents lows highs t.locations)
+      some_value r n u z s =
+          let low = ap (λ (f : ℕ → ℕ). f u) (ap entry l ∙ low_is) in
+          let high = ap (λ (f : ℕ → ℕ). f u) (ap entry h ∙ high_is) in
+          (omega (arith, low_first n u s), omega (arith, (r.location u).high))
+
     -- SHAPE: parents fall
     pub falls : ((v : ℕ) → v < t.locations → T (not (breaks_shape t v))) → Falls (entry parents) t.locations
     falls n v z s =
@@ -57,14 +88,6 @@ module _ (t : Table) where
         let ok = not_not (is_placed a v && (eqb a.variable 0 || not (is_leaf (tree_of t) v))) (n v s) in
         let placed : T (ltb a.parent v) = rw (placed_child a v (omega arith)) at (and_left (is_placed a v) _ ok) in
         omega (arith, ap (λ (f : ℕ → ℕ). f v) (ap entry p ∙ parent_is), ltb→lt a.parent v placed)
-
-  -- VALUE: each guard holds some value
-  pub low_first : ((v : ℕ) → v < t.locations → T (not (breaks_value t v))) → (v : ℕ) → v < t.locations → (location_at t v).low ≤ (location_at t v).high
-  low_first n v s =
-      let a = location_at t v in
-      let ok = not_not (within 1 1024 a.ticks && (leb a.queue t.queues && (leb a.variable 7 && leb a.low a.high))) (n v s) in
-      let rest = and_right (leb a.queue t.queues) (leb a.variable 7 && leb a.low a.high) (and_right (within 1 1024 a.ticks) _ ok) in
-      leb→le a.low a.high (and_right (leb a.variable 7) (leb a.low a.high) rest)
 
   -- ---- guards that are read from the table
 
@@ -74,22 +97,15 @@ module _ (t : Table) where
         ap (λ n. not (is_placed (location_at t v) v && (eqb (location_at t v).variable 0 || not (leaf_over g.parents n v)))) read.n
         ∙ shape_agrees g.parents read.parents v
 
-    guards_are : (q : (ℕ → ℕ) → (ℕ → ℕ) → (ℕ → ℕ) → Found) → q (entry g.parents) (entry g.lows) (entry g.highs) ≡ q (tree_of t).parent (tree_of t).low (tree_of t).high
-    guards_are q =
-        let p = ap entry read.parents ∙ parent_is in
-        let l = ap entry read.lows ∙ low_is in
-        let h = ap entry read.highs ∙ high_is in
-        λ i. q (p i) (l i) (h i)
-
     pub gap_read : first (gap_in (guards_of g)) 0 g.n ≡ lowest_location t breaks_gap
     gap_read =
         ap (λ n. first (gap_in (guards_over g.parents g.lows g.highs n)) 0 n) read.n
-        ∙ guards_are (λ p l h. first (gap_in (tree_over t.locations p zeros l h)) 0 t.locations)
+        ∙ gap_agrees g.parents read.parents g.lows g.highs read.lows read.highs
 
     pub overlap_read : first (overlap_in (guards_of g)) 0 g.n ≡ lowest_location t breaks_overlap
     overlap_read =
         ap (λ n. first (overlap_in (guards_over g.parents g.lows g.highs n)) 0 n) read.n
-        ∙ guards_are (λ p l h. first (overlap_in (tree_over t.locations p zeros l h)) 0 t.locations)
+        ∙ overlap_agrees g.parents read.parents g.lows g.highs read.lows read.highs
 
     pub period_read : (ticks : List ℕ) → ticks ≡ ticks_column t → first (misses_period g.parents ticks g.n t.period) 0 g.n ≡ lowest_location t breaks_period
     period_read ticks k = ap (λ n. first (misses_period g.parents ticks n t.period) 0 n) read.n ∙ period_agrees g.parents read.parents ticks k

@@ -11,7 +11,7 @@ use demand::due;
 use table::WellFormedTable;
 
 // The largest multiple for which there is a verdict.
-const LIMIT: u32 = 1_000_000;
+pub const LIMIT: u32 = 1_000_000;
 
 // The first multiple of `base` that `gap` divides: the loop goes from multiple to multiple, and counts none.
 fn common(base: u32, gap: u32) -> Option<u32>

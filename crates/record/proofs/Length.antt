@@ -10,6 +10,7 @@ use Rattle.table.specs.declared.Table.{Table}
 use Rattle.table.specs.Rules.{judged}
 use Rattle.format.specs.Format.{record_length}
 use Rattle.format.specs.Tests.{left, is_location, header_number, field_number}
+use Rattle.record.specs.declared.ReadAnswer.{ReadAnswer}
 use Rattle.record.specs.Reading.{fields_from, most_fields, fields_of, read_of}
 use Rattle.record.proofs.Fields.{header_refused, header_fine, header_met, location_met, task_met, location_read, task_read, field_refused, end_without_location, end_read, read_refused, read_judged, read_accepted}
 
@@ -63,3 +64,7 @@ module _ (s : List ℕ) where
     ]
     | inr h ↦ absurd (h (rw (read_refused s h) at e))
   ]
+
+  -- the same of an answer, as C holds it
+  pub answer_length : (a : ReadAnswer) → a ≡ read_of s → a.refusal.number ≡ 0 → ((read_of s).refusal.number ≡ 0) × (record_length a.table ≡ length s)
+  answer_length a f e = let r = rw f at e in (r, rw f (read_length r))

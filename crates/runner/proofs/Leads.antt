@@ -22,7 +22,7 @@ pub some_guard : (t : Table) → WellFormed t → (v : ℕ) → v < t.locations 
 some_guard t w zero l = omega (arith, w.root.1)
 some_guard t w (suc v) l = (w.guarded.some_value (suc v) (omega arith) l).0
 
-columns_lead : (t : Table) (v x : ℕ) → onto (guards_over (parent_column t) (low_column t) (high_column t) t.locations) v x ≡ onto (tree_of t) v x
+pub columns_lead : (t : Table) (v x : ℕ) → onto (guards_over (parent_column t) (low_column t) (high_column t) t.locations) v x ≡ onto (tree_of t) v x
 columns_lead t v x = λ i.
     onto
     (tree_over t.locations

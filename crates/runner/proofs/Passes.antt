@@ -1,11 +1,13 @@
--- A pass over the numbers of a range says what the search for the first, or for none, says. Assumes nothing.
+-- A pass over the numbers of a range says what the search for the first, or for none, says; one over the entries ends at the first that
+-- breaks a rule, or finds that none does. Assumes nothing.
 use Rattle.std.proofs.Common.{◌≡◌, refl, sym, ap, ◌∙◌, ℕ, zero, suc, ◌+◌, ◌-◌, ◌≤◌, ◌<◌, Bool, true, false, not, cond, Some, inl, inr, add-zero, add-one, arith}
 use Rattle.std.specs.List.{range_with_len, list_all, find}
 use lib.Dec.{T}
 use Rattle.laws.specs.Test.{none}
 use Rattle.laws.specs.Found.{found, first}
 use Rattle.laws.proofs.Test.{either, le_or_lt, and_both, none_not, none_all}
-use Rattle.laws.proofs.Cases.{is_true, is_false}
+use Rattle.laws.proofs.Cases.{is_true, is_false, of_true}
+use Rattle.judge.proofs.Lowest.{Kept}
 use Rattle.jobs.specs.Entries.{choice_of}
 
 module _ (breaks keeps : ℕ → Bool) where
@@ -40,3 +42,11 @@ find_first p a (suc k) = rw add-one (go (p a) (find_first p (suc a) k))
     go : (b : Bool) → find p (range_with_len (suc a) k) ≡ choice_of (first p (suc a) k) → cond b (Some a) (find p (range_with_len (suc a) k)) ≡ choice_of (found b a (first p (suc a) k))
     go true e = refl
     go false e = e
+
+-- entry by entry
+module _ (breaks : ℕ → Bool) (n i : ℕ) where
+  pub one_breaks : i < n → breaks i ≡ true → false ≡ none breaks n
+  one_breaks l e = sym (is_false (none breaks n) (none_not breaks n i l (of_true (breaks i) e)))
+
+  pub none_breaks : n ≤ i → Kept breaks n i → true ≡ none breaks n
+  none_breaks l h = sym (is_true (none breaks n) (none_all breaks n (λ k m. h.each k (omega arith))))

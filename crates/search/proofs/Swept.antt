@@ -98,6 +98,9 @@ module _ (t : Table) (formed : WellFormed t) (q : ℕ) where
     passed series demanded last None s past w l = s w
     passed series demanded last (Some d) s past w l = s.kept w (omega (arith, past d refl))
 
+    pub meets_past : (series : List Series) (demanded next : ℕ) → Swept t q series n demanded next → lcm_of ts q t.period < next → Meets (grants (tree_of t)) ts q
+    meets_past series demanded next s l = meets_all (lcm_of ts q t.period) refl (λ w m. s.kept w (omega arith))
+
     -- what is due in the block fits
     pub block_small : (series : List Series) (demanded next : ℕ) → Swept t q series n demanded next → next ≤ 1000000
         → (w : ℕ) → w < next + 64 → entered (replicate 64 0) next w + ahead series n w ≤ far

@@ -2,14 +2,14 @@
 use mathlib.Core.Path.{◌≡◌, refl, ap, ◌∙◌}
 use mathlib.Core.List.{List, ◌++◌}
 use mathlib.Core.Logic.{inl, inr}
-use Prim.Native.Nat.{ℕ, suc, ◌+◌, ◌-◌, ◌≤◌, ◌<◌}
+use Prim.Native.Nat.{ℕ, suc, ◌+◌, ◌-◌, ◌≤◌, ◌<◌, zero-le}
 use native.Mathlib.Omega.{arith}
 use lib.ListN.{length, set, replicate, take, drop, length-append, length-set, length-replicate, get_or-replicate, get_or-eq_default}
 use Rattle.std.proofs.lemmas.List.{length-drop, length-take-le, get_or-drop, get_or_append_left, get_or-append_right}
 use lib.Seq.{get_or-set_same, get_or-set_other}
 use Rattle.laws.proofs.Test.{le_or_lt}
 use Rattle.table.specs.Columns.{entry}
-use Rattle.slice.specs.Changes.{Becomes}
+use Rattle.slice.specs.Changes.{Entries, Becomes}
 
 -- the entry that is written
 pub set_here : (xs : List ℕ) (k x : ℕ) → k < length xs → entry (set xs k x) k ≡ x
@@ -33,6 +33,9 @@ pub record Between (f : ℕ → ℕ) (lo hi : ℕ) (before after : List ℕ) : T
   pub over : (i : ℕ) → hi ≤ i → entry after i ≡ entry before i
 
 module _ (f : ℕ → ℕ) where
+  pub between_none : (k : ℕ) (xs : List ℕ) → Between f k k xs xs
+  between_none k xs = record { long = refl; inside = λ i a b. absurd (omega arith); under = λ i a. refl; over = λ i a. refl }
+
   -- one more above, or below
   pub between_more : (lo hi x : ℕ) (xs ys : List ℕ) → lo ≤ hi → hi < length xs → x ≡ f hi → Between f lo hi xs ys → Between f lo (hi + 1) xs (set ys hi x)
   between_more lo hi x xs ys o l e b = record {
@@ -64,6 +67,12 @@ module _ (f : ℕ → ℕ) where
     under = λ i p. refl;
     over = λ i p. refl;
   }
+
+  pub between_all : (last hi : ℕ) (xs ys : List ℕ) → hi ≡ last + 1 → Between f 0 hi xs ys → Becomes last f xs ys
+  between_all last hi xs ys e b = record { long = b.long; each = λ i p. b.inside i zero-le (omega arith); later = λ i p. b.over i (omega arith) }
+
+  pub between_entries : (n hi : ℕ) (xs ys : List ℕ) → n ≤ hi → Between f 0 hi xs ys → Entries n f ys
+  between_entries n hi xs ys l b v p = b.inside v zero-le (omega arith)
 
 -- what becomes of a slice whose first n entries are worked on
 pub becomes_part : (last n : ℕ) (f : ℕ → ℕ) (xs ys : List ℕ) → n ≡ last + 1 → n ≤ length xs → Becomes last f (take n xs) ys → Becomes last f xs (ys ++ drop n xs)

@@ -6,17 +6,46 @@ use Prim.Native.Nat.{ℕ, suc, ◌+◌, ◌≤◌, ◌<◌, min}
 use native.Mathlib.Nat.{le_refl}
 use native.Mathlib.Omega.{arith}
 use mathlib.Core.Bool.{Bool, true, false}
+use lib.ListN.{length, set, length-set}
 use lib.Dec.{T, ltb, lt→ltb}
 use lib.Arith.{le→nltb}
 use Rattle.laws.specs.Test.{pick}
 use Rattle.laws.proofs.Test.{le_or_lt, pick_yes, pick_no, pick_le}
 use Rattle.table.specs.Columns.{entry}
-use Rattle.slice.specs.Changes.{Lowers, Until, Longer}
+use Rattle.laws.proofs.Cases.{is_true}
+use Rattle.slice.specs.Changes.{Lowers, Single, Until, Longer}
+use Rattle.slice.proofs.Between.{set_here, set_there}
 
 module _ (last : ℕ) where
   -- no point
   pub lowers_none : (Q : ℕ → ℕ → Type 0) → ((n m : ℕ) → Q n m → ⊥) → (xs : List ℕ) → Lowers last Q xs xs
   lowers_none Q none xs = record { long = refl; falls = λ i. le_refl _; later = λ i l. refl; met = λ n m q. absurd (none n m q); sound = λ f p h. h }
+
+  -- one point, that is marked or not
+  pub lowers_skip : (xs : List ℕ) (mark : Bool) (n m : ℕ) → (mark ≡ true → ⊥) → Lowers last (λ x y. T mark × Single n m x y) xs xs
+  lowers_skip xs mark n m out = lowers_none (λ x y. T mark × Single n m x y) (λ a b p. out (is_true mark p.0)) xs
+
+  pub lowers_mark : (xs : List ℕ) (mark : Bool) (n m x : ℕ) → mark ≡ true → last < length xs → x ≡ min (entry xs (min n last)) m
+      → Lowers last (λ x y. T mark × Single n m x y) xs (set xs (min n last) x)
+  lowers_mark xs mark n m x on l e = record {
+    long = simp length-set;
+    falls = λ i. elim (same i) [ inl d ↦ rw d (omega (arith, here)) | inr d ↦ rw (set_there xs (min n last) i x d) (le_refl _) ];
+    later = λ i p. set_there xs (min n last) i x (omega arith);
+    met = λ a b (p, (q, r)). rw (q, r) (omega (arith, here));
+    sound = λ f p h i o. elim (same i) [
+      | inl d ↦ rw d (omega (arith, here, p n m (rw on tt, (refl, refl)), h (min n last) (omega arith)))
+      | inr d ↦ rw (set_there xs (min n last) i x d) (h i o)
+    ];
+  }
+    where
+      here : entry (set xs (min n last) x) (min n last) ≡ x
+      here = set_here xs (min n last) x (omega arith)
+
+      same : (i : ℕ) → (i ≡ min n last) ⊎ (i ≡ min n last → ⊥)
+      same i = elim (le_or_lt i (min n last)) [
+        | inl a ↦ elim (le_or_lt (min n last) i) [ inl b ↦ inl (omega arith) | inr b ↦ inr (omega arith) ]
+        | inr a ↦ inr (omega arith)
+      ]
 
   -- the points of Q, then those of R, are those of S
   pub lowers_then : (Q R S : ℕ → ℕ → Type 0) (xs ys zs : List ℕ) → ((n m : ℕ) → S n m → Q n m ⊎ R n m) → ((n m : ℕ) → Q n m → S n m) → ((n m : ℕ) → R n m → S n m)
@@ -52,6 +81,9 @@ module _ (last : ℕ) where
   -- ---- set by set
 
   module _ (Q : ℕ → ℕ → ℕ → Type 0) where
+    pub until_none : (xs : List ℕ) → Lowers last (Until Q 0) xs xs
+    until_none xs = lowers_none (Until Q 0) (λ n m (u, l, q). omega arith) xs
+
     pub until_more : (v : ℕ) (xs ys zs : List ℕ) → Lowers last (Until Q v) xs ys → Lowers last (Q v) ys zs → Lowers last (Until Q (v + 1)) xs zs
     until_more v xs ys zs = lowers_then (Until Q v) (Q v) (Until Q (v + 1)) xs ys zs
         (λ x y (u, l, q). elim (le_or_lt v u) [ inl h ↦ let e : u ≡ v = omega arith in inr (subst (λ w. Q w x y) e q) | inr h ↦ inl (u, h, q) ])
@@ -86,6 +118,9 @@ module _ (last : ℕ) where
     pub record Stretching (next : ℕ) (ys : List ℕ) : Type 0 where
       pub lowers : Lowers last (Since next) xs ys
       pub under : (i : ℕ) → i < next → entry ys i ≡ entry xs i
+
+    pub stretching_none : Stretching (last + 1) xs
+    stretching_none = record { lowers = lowers_none (Since (last + 1)) (λ n m (i, a, b, q). omega arith) xs; under = λ i l. refl }
 
     pub stretching_more : (i next : ℕ) (ys zs : List ℕ) → next ≡ suc i → next ≤ last + 1 → Stretching next ys → Lowers last (Longer period cycle ys i) ys zs → Stretching i zs
     stretching_more i next ys zs e l a b = record {

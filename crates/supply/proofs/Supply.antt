@@ -20,7 +20,7 @@ use Rattle.theory.proofs.Bounds.{least_unique, least_grows}
 use Rattle.theory.proofs.Paths.{some_tick}
 use Rattle.theory.proofs.Cycles.{least_far}
 use Rattle.theory.proofs.Runs.{sound, tree_least}
-use Rattle.theory.proofs.Period.{cycle_least_law}
+use Rattle.theory.proofs.Period.{cycle_least_law, cycle_least_unique}
 use Rattle.table.specs.declared.Table.{Table}
 use Rattle.table.specs.Table.{tree_of}
 use Rattle.table.specs.Rules.{WellFormed}
@@ -73,6 +73,22 @@ module _ (t : Table) (formed : WellFormed t) (q : ℕ) where
       let e : v + (w - v) ≡ w = omega arith in
       rw e at (least_grows (grants (tree_of t)) v (w - v) (least_is v) (least_is (v + (w - v)))).0
 
+  module _ (filled : List ℕ) (cycle : ℕ) (known : Supplied t q filled cycle) where
+    pub cycle_is : cycle ≡ cycle_least (system (tree_of t)) (is q)
+    cycle_is = cycle_least_unique (tree_of t) (is q) cycle (cycle_least (system (tree_of t)) (is q)) known.cycle_least_law (cycle_least_law (tree_of t) formed.formed (is q))
+
+    pub cycle_le : cycle ≤ t.period
+    cycle_le = omega (arith, cycle_is, cycle_small (tree_of t) formed.formed (is q))
+
+    pub entry_is : (w : ℕ) → w < 2 * t.period → entry filled w ≡ least t q w
+    entry_is w l = least_said w (entry filled w) (known.least w l)
+
+    pub entry_small : (w : ℕ) → w < 2 * t.period → entry filled w ≤ 2048
+    entry_small w l = omega (arith, entry_is w l, least_small (tree_of t) formed.formed (is q) w, formed.period)
+
+    pub supply_is : (w : ℕ) → supply_at filled t.period cycle w ≡ least t q w
+    supply_is = supply_least (tree_of t) formed.formed (is q) filled cycle entry_is cycle_is
+
 -- ---- a queue's supply
 
 module _ (s : Supply) where
@@ -81,15 +97,6 @@ module _ (s : Supply) where
 
   abbrev formed : WellFormed t
   formed = well_formed s.table.now
-
-  pub cycle_le : s.cycle ≤ t.period
-  cycle_le = omega (arith, s.least_of_cycle, cycle_small (tree_of t) formed.formed (is s.queue))
-
-  pub entry_small : (w : ℕ) → w < 2 * t.period → entry s.filled.now w ≤ 2048
-  entry_small w l = omega (arith, s.each_least w l, least_small (tree_of t) formed.formed (is s.queue) w, formed.period)
-
-  pub supply_is : (w : ℕ) → supply_at s.filled.now t.period s.cycle w ≡ least t s.queue w
-  supply_is = supply_least (tree_of t) formed.formed (is s.queue) s.filled.now s.cycle s.each_least s.least_of_cycle
 
   -- in the rules' words
   pub supplied : Supplied t s.queue s.filled.now s.cycle

@@ -1,10 +1,11 @@
--- The look for a child: a leaf's number is nobody's parent. Assumes nothing.
-use Rattle.std.proofs.Common.{◌≡◌, sym, ◌∙◌, ap, Bool, true, false, not, ◌&&◌, List, ℕ, ◌+◌, ◌-◌, ◌≤◌, ◌<◌, length, arith, inl, inr}
+-- The look for a child: a leaf's number is nobody's parent, and one location more makes a leaf no leaf where it names the leaf as its
+-- parent. Assumes nothing.
+use Rattle.std.proofs.Common.{◌≡◌, refl, sym, ◌∙◌, ap, Bool, true, false, not, ◌&&◌, List, ℕ, ◌+◌, ◌-◌, ◌≤◌, ◌<◌, length, add-one, arith, inl, inr}
 use Rattle.std.proofs.Math.ListN.{get_or, drop}
 use Rattle.std.specs.List.{slice_range, IsAnyAnswer}
 use Rattle.std.proofs.lemmas.List.{get_or-take, get_or-drop, length-take-le, length-drop}
 use lib.Dec.{T, eqb, ltb}
-use borrow.Author.Tests.{lt-ltb}
+use borrow.Author.Tests.{lt-ltb, eq-eqb, ne_eqb}
 use Rattle.laws.specs.Test.{none}
 use Rattle.laws.proofs.Test.{le_or_lt, none_not, none_all}
 use Rattle.laws.proofs.Cases.{is_true, is_false, of_true, of_false}
@@ -45,3 +46,23 @@ leaf_unnamed parents v n b l = any_none (λ u. ltb 0 u && eqb (entry parents u) 
 
     root : (u : ℕ) → u < n → u < 1 → T (not (ltb 0 u && eqb (entry parents u) v))
     root u m s = let e : u ≡ 0 = omega arith in rw e tt
+
+-- ---- location by location
+
+module _ (parents : List ℕ) (v : ℕ) where
+  -- the root is nobody's child
+  pub leaf_of_one : leaf_over parents 1 v ≡ true
+  unfolding none
+  leaf_of_one = refl
+
+  pub leaf_ends : (u : ℕ) → 0 < u → entry parents u ≡ v → leaf_over parents (u + 1) v ≡ false
+  unfolding none
+  leaf_ends u h e = rw add-one (simp (lt-ltb 0 u h, eq-eqb (entry parents u) v e))
+
+  pub leaf_stays : (u : ℕ) → (entry parents u ≡ v → ⊥) → leaf_over parents (u + 1) v ≡ leaf_over parents u v
+  unfolding none
+  leaf_stays u n = rw add-one (go (ltb 0 u))
+    where
+      go : (b : Bool) → (not (b && eqb (entry parents u) v) && leaf_over parents u v) ≡ leaf_over parents u v
+      go true = simp (ne_eqb (entry parents u) v n)
+      go false = refl

@@ -1,5 +1,6 @@
 -- What the proofs of the functions cite.
 pub mod Ranged
+pub mod Flags
 pub mod Copied
 pub mod Leaves
 pub mod Reasons

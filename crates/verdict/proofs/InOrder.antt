@@ -1,12 +1,13 @@
--- Refusals in order and what stands beside them: one that is there stands, else the next test decides. Assumes nothing.
+-- Refusals in order and what stands beside them: one that is there stands, else the next test decides. A slice of 2,048 entries has room
+-- for the filling of every table. Assumes nothing.
 use mathlib.Core.Path.{◌≡◌, refl, sym, ap, ◌∙◌}
 use mathlib.Core.Bool.{Bool, true, false, not}
 use mathlib.Core.Logic.{inl, inr}
-use Prim.Native.Nat.{ℕ, ◌≤◌, ◌<◌}
+use Prim.Native.Nat.{ℕ, ◌*◌, ◌≤◌, ◌<◌}
 use native.Mathlib.Omega.{arith}
-use lib.Dec.{leb, le→leb, leb→le, ltb, eqb}
+use lib.Dec.{T, not_T, leb, le→leb, leb→le, ltb, eqb}
 use borrow.Author.Tests.{lt-ltb, le-ltb}
-use Rattle.std.proofs.Common.{Ok, Err}
+use Rattle.std.proofs.Common.{Ok}
 use Rattle.laws.proofs.Test.{either, and_left, and_right, and_both, eqb_of, neqb_of}
 use Rattle.laws.proofs.Cases.{is_true, is_false}
 use Rattle.theory.specs.Search.{lcm_of}
@@ -15,17 +16,49 @@ use Rattle.table.specs.declared.Refusal.{Refusal}
 use Rattle.table.specs.declared.refused.Refused.{Refused}
 use Rattle.table.specs.declared.refused.Reason.TheVariants.{Amount}
 use Rattle.table.specs.Table.{tasks_of}
+use Rattle.table.specs.Ranged.{Ranged}
 use Rattle.table.specs.Reasons.{as_refusal}
-use Rattle.table.specs.Rules.{within, refusal, fine}
+use Rattle.table.specs.Rules.{within, refusal, fine, judged}
 use Rattle.table.proofs.Reasons.{not_zero}
-use Rattle.bounds.specs.Questions.{refuse_if, also, queue_refusal, Answer}
-use Rattle.bounds.specs.Answered.{ticks_answered}
-use Rattle.bounds.proofs.Refused.{Passes, also_refused, also_err, also_ok}
+use Rattle.bounds.specs.declared.TicksAnswer.{TicksAnswer}
+use Rattle.bounds.specs.Questions.{refuse_if, also, queue_refusal, fill_refusal, Answer}
+use Rattle.bounds.proofs.Refused.{Passes, passes_or, also_refused, also_passed, also_err, also_ok, also_none, queue_asked}
 use Rattle.search.specs.declared.Verdict as search
+use Rattle.search.specs.declared.VerdictAnswer.{VerdictAnswer}
 use Rattle.search.specs.declared.Verdict.TheVariants.{Meets, Short}
-use Rattle.search.specs.Answers.{Verdict}
+use Rattle.search.specs.Answers.{refused_answer, Verdict}
 use Rattle.search.specs.Answered.{verdict_answered}
 use Rattle.verdict.specs.Questions.{horizon_refusal, amount_refusal, wait_refusal, VerdictAnswers}
+
+-- ---- tests
+
+pub within_low : (a b x : ℕ) → x < a → T (not (within a b x))
+within_low a b x l = not_T (within a b x) (λ y. absurd (omega (arith, leb→le a x (and_left (leb a x) _ y))))
+
+pub within_high : (a b x : ℕ) → b < x → T (not (within a b x))
+within_high a b x l = not_T (within a b x) (λ y. absurd (omega (arith, leb→le x b (and_right (leb a x) _ y))))
+
+-- ---- the queue
+
+module _ (t : Table) (q : ℕ) where
+  pub asked_fine : Passes (queue_refusal t q) → queue_refusal t q ≡ fine
+  unfolding queue_refusal
+  asked_fine e =
+      let broken = not (within 1 t.queues q) in
+      let (p, b) = also_none (judged t) broken 9 e in
+      also_passed (judged t) broken 10 p ∙ ap (λ b. refuse_if b 10) b
+
+  -- there is room for two periods
+  pub fill_asked : Ranged t → fill_refusal t q 2048 ≡ queue_refusal t q
+  unfolding fill_refusal
+  fill_asked range =
+      let asked = queue_refusal t q in
+      let broken = ltb 2048 (2 * t.period) in
+      passes_or asked (also asked broken 16 ≡ asked)
+      (λ e.
+      let room : broken ≡ false = le-ltb 2048 (2 * t.period) (omega (arith, (queue_asked t range q e).well_formed.period)) in
+      also_passed asked broken 16 e ∙ (ap (λ b. refuse_if b 16) room ∙ sym (asked_fine e)))
+      (λ n. also_refused asked broken 16 n)
 
 -- ---- answers
 
@@ -34,18 +67,28 @@ pub refuses : (e : Refused) (r : Refusal) → as_refusal e ≡ r → ¬ (r.numbe
 refuses e r is z = not_zero e (ap (λ (a : Refusal). a.number) is ∙ z)
 
 -- zeros beside a refusal
-pub refused_answer_law : (r : Refusal) (A : ℕ → Type 0) (e : Refused) → as_refusal e ≡ r → Answer r A (ticks_answered (Err e))
-refused_answer_law r A e is = record { refusal = is; says = λ p. absurd (refuses e r is p); silent = λ n. refl }
+pub refused_answer_law : (r : Refusal) (A : ℕ → Type 0) (a : TicksAnswer) → ¬ Passes r → a.refusal ≡ r → a.ticks ≡ 0 → Answer r A a
+refused_answer_law r A a n e z = record { refusal = e; says = λ p. absurd (n p); silent = λ p. z }
 
-pub verdict_refused : (t : Table) (q : ℕ) (e : Refused) → as_refusal e ≡ horizon_refusal t q → VerdictAnswers t q (verdict_answered (Err e))
-verdict_refused t q e is = record { refusal = is; says = λ p. absurd (refuses e _ is p); silent = λ n. (refl, (refl, refl, refl)) }
+pub given_answer : (r : Refusal) (A : ℕ → Type 0) (a : TicksAnswer) → r ≡ fine → a.refusal ≡ r → A a.ticks → Answer r A a
+given_answer r A a f e x = record { refusal = e; says = λ p. x; silent = λ n. absurd (n (ap (λ (s : Refusal). s.number) f)) }
 
-pub verdict_given : (t : Table) (q : ℕ) (v : search.Verdict) → fine ≡ horizon_refusal t q → Verdict t q (verdict_answered (Ok v)) → VerdictAnswers t q (verdict_answered (Ok v))
-verdict_given t q v e says = record { refusal = no_refusal v ∙ e; says = λ p. says; silent = λ n. absurd (n (sym (ap (λ (a : Refusal). a.number) e))) }
-  where
-    no_refusal : (v : search.Verdict) → (verdict_answered (Ok v)).refusal ≡ fine
-    no_refusal Meets = refl
-    no_refusal (Short w d s) = refl
+pub verdict_refused : (t : Table) (q : ℕ) (a : VerdictAnswer) (r : Refusal) → horizon_refusal t q ≡ r → ¬ Passes r → a ≡ refused_answer r → VerdictAnswers t q a
+verdict_refused t q a r h n e =
+    rw e
+    (record {
+      refusal = sym h;
+      says = λ p. absurd (n (ap (λ (s : Refusal). s.number) (sym h) ∙ p));
+      silent = λ p. (refl, (refl, refl, refl));
+    })
+
+pub verdict_given : (t : Table) (q : ℕ) (a : VerdictAnswer) → horizon_refusal t q ≡ fine → a.refusal ≡ fine → Verdict t q a → VerdictAnswers t q a
+verdict_given t q a h e v = record { refusal = e ∙ sym h; says = λ p. v; silent = λ n. absurd (n (ap (λ (s : Refusal). s.number) h)) }
+
+-- no refusal beside a verdict
+pub no_refusal : (v : search.Verdict) → (verdict_answered (Ok v)).refusal ≡ fine
+no_refusal Meets = refl
+no_refusal (Short w d s) = refl
 
 -- ---- the verdict's refusal
 
@@ -53,9 +96,13 @@ module _ (t : Table) (q : ℕ) where
   abbrev pub multiple : ℕ
   multiple = lcm_of (tasks_of t) q t.period
 
-  pub horizon_asked : (e : Refused) → as_refusal e ≡ queue_refusal t q → as_refusal e ≡ horizon_refusal t q
+  -- a refusal of the queue stands
+  pub horizon_stands : ¬ Passes (queue_refusal t q) → horizon_refusal t q ≡ queue_refusal t q
   unfolding horizon_refusal
-  horizon_asked = also_err (queue_refusal t q) (ltb 1000000 multiple) 13
+  horizon_stands n = also_refused (queue_refusal t q) (ltb 1000000 multiple) 13 n
+
+  pub horizon_asked : (e : Refused) → as_refusal e ≡ queue_refusal t q → as_refusal e ≡ horizon_refusal t q
+  horizon_asked e is = is ∙ sym (horizon_stands (refuses e _ is))
 
   pub horizon_past : fine ≡ queue_refusal t q → 1000000 < multiple → refusal 13 0 ≡ horizon_refusal t q
   unfolding horizon_refusal

@@ -19,9 +19,8 @@ use Rattle.theory.proofs.Wait.{wait_more}
 use Rattle.table.specs.declared.Table.{Table}
 use Rattle.table.specs.Table.{tree_of}
 use Rattle.table.specs.Rules.{WellFormed}
-use Rattle.table.proofs.Known.{well_formed}
-use Rattle.supply.specs.declared.queues.Supply.{Supply}
-use Rattle.supply.proofs.Supply.{least, least_is, least_said, least_rises}
+use Rattle.supply.specs.Supply.{Supplied}
+use Rattle.supply.proofs.Supply.{least, least_is, least_said, least_rises, cycle_is, entry_is}
 use Rattle.waits.specs.Reaches.{Reaches}
 
 -- the wait of a queue of the table
@@ -37,38 +36,29 @@ reaches_whole filled e c r room found =
       reached = λ l. rw (get_or-take e filled r 0 l) at (found.reached (omega arith));
     }
 
-module _ (s : Supply) where
-  abbrev t : Table
-  t = s.table.now.table.now
-
-  abbrev formed : WellFormed t
-  formed = well_formed s.table.now
-
-  abbrev q : ℕ
-  q = s.queue
-
+module _ (t : Table) (formed : WellFormed t) (q : ℕ) (filled : List ℕ) (cycle : ℕ) (known : Supplied t q filled cycle) where
   abbrev P : ℕ
   P = t.period
 
-  two_periods : least t q (2 * P) ≡ least t q P + s.cycle
+  two_periods : least t q (2 * P) ≡ least t q P + cycle
   two_periods =
       omega (
         arith,
         ap (least t q) {x = 2 * P} {y = P + P} (omega arith),
         least_period (system (tree_of t)) (sound (tree_of t) formed.formed) (is q) P (le_refl P),
-        s.least_of_cycle,
+        cycle_is t formed q filled cycle known,
       )
 
-  module _ (c r : ℕ) (found : Reaches s.filled.now (2 * P) c r) (most : c ≤ least t q P + s.cycle) where
+  module _ (c r : ℕ) (found : Reaches filled (2 * P) c r) (most : c ≤ least t q P + cycle) where
     wait_near : WaitOf t q c r
     wait_near = record {
       supply = least t q r;
       supplies = least_is t formed q r;
       reached = elim (le_or_lt (2 * P) r) [
         | inl h ↦ omega (arith, two_periods, ap (least t q) {x = r} {y = 2 * P} (omega (arith, found.within)))
-        | inr h ↦ omega (arith, found.reached h, s.each_least r h)
+        | inr h ↦ omega (arith, found.reached h, entry_is t formed q filled cycle known r h)
       ];
-      shortest = λ w m l x. omega (arith, found.before w l, least_said t formed q w m x, s.each_least w (omega (arith, found.within)));
+      shortest = λ w m l x. omega (arith, found.before w l, least_said t formed q w m x, entry_is t formed q filled cycle known w (omega (arith, found.within)));
     }
 
     -- more than one period has
@@ -78,26 +68,26 @@ module _ (s : Supply) where
         arith,
         formed.period,
         found.reached (omega (arith, formed.period)),
-        s.each_least r (omega (arith, formed.period)),
+        entry_is t formed q filled cycle known r (omega (arith, formed.period)),
         least_rises t formed q r P l,
       ))
       | inr l ↦ l
     ]
 
-    wait_far : least t q P < c → (k : ℕ) → WaitOf t q (c + k * s.cycle) (r + k * P)
+    wait_far : least t q P < c → (k : ℕ) → WaitOf t q (c + k * cycle) (r + k * P)
     wait_far h zero =
-        let e : c + 0 * s.cycle ≡ c = omega arith in
+        let e : c + 0 * cycle ≡ c = omega arith in
         let f : r + 0 * P ≡ r = omega arith in
         subst₂ (WaitOf t q) (sym e) (sym f) wait_near
     wait_far h (suc k) =
-        let e : c + suc k * s.cycle ≡ c + k * s.cycle + cycle_least (system (tree_of t)) (is q) = omega (arith, s.least_of_cycle) in
+        let e : c + suc k * cycle ≡ c + k * cycle + cycle_least (system (tree_of t)) (is q) = omega (arith, cycle_is t formed q filled cycle known) in
         let f : r + suc k * P ≡ r + k * P + P = omega arith in
-        subst₂ (WaitOf t q) (sym e) (sym f) (wait_more (tree_of t) formed.formed (is q) (c + k * s.cycle) (r + k * P) (omega (arith, after_period h)) (wait_far h k))
+        subst₂ (WaitOf t q) (sym e) (sym f) (wait_more (tree_of t) formed.formed (is q) (c + k * cycle) (r + k * P) (omega (arith, after_period h)) (wait_far h k))
 
     -- with k cycles more, if none or if more was asked than one period has
-    pub wait_left : (k : ℕ) → (k ≡ 0) ⊎ (least t q P < c) → WaitOf t q (c + k * s.cycle) (r + k * P)
+    pub wait_left : (k : ℕ) → (k ≡ 0) ⊎ (least t q P < c) → WaitOf t q (c + k * cycle) (r + k * P)
     wait_left k (inl z) =
-        let e : c + k * s.cycle ≡ c = rw z (omega arith) in
+        let e : c + k * cycle ≡ c = rw z (omega arith) in
         let f : r + k * P ≡ r = rw z (omega arith) in
         subst₂ (WaitOf t q) (sym e) (sym f) wait_near
     wait_left k (inr h) = wait_far h k

@@ -1,4 +1,4 @@
-use Rattle.std.proofs.Common.{subst}
+use Rattle.std.proofs.Common.{refl, subst}
 use Rattle.theory.specs.Grants.{is}
 use Rattle.theory.specs.Bounds.{Least}
 use Rattle.theory.specs.Tree.{grants}
@@ -15,7 +15,7 @@ returns c =
     let accepted = c.in_ok-table.table in
     let says = least_says (tree_of accepted.table.now) (well_formed accepted).formed a.queue _ a.window c.bound.ensures in
     let of_table = subst (λ (t : Table). Least (grants (tree_of t)) (is a.queue) a.window c.bound.result) c.in_ok-table.ensures.kept says in
-    answer_says _ _ _ c.in_ok-table.ensures.refusal of_table
+    answer_says _ _ _ c.in_ok-table.ensures.refusal _ refl of_table
 
 pub invariant_of-own : goal.invariant_of-own
 invariant_of-own c = record { some_queue = (window_known c.args.table c.args.queue c.args.window c.in_ok-table.ensures.refusal).0 }

@@ -1,4 +1,4 @@
-use Rattle.std.proofs.Common.{subst, ◌-◌}
+use Rattle.std.proofs.Common.{refl, subst, ◌-◌}
 use Rattle.theory.specs.Grants.{is}
 use Rattle.theory.specs.Bounds.{Most}
 use Rattle.theory.specs.Tree.{grants}
@@ -15,7 +15,7 @@ returns c =
     let accepted = c.in_ok-table.table in
     let says = most_says (tree_of accepted.table.now) (well_formed accepted).formed a.queue _ a.window c.bound.ensures in
     let of_table = subst (λ (t : Table). Most (grants (tree_of t)) (is a.queue) a.window (a.window - c.bound.result)) c.in_ok-table.ensures.kept says in
-    answer_says _ _ _ c.in_ok-table.ensures.refusal (rw c.saturating_sub.ensures of_table)
+    answer_says _ _ _ c.in_ok-table.ensures.refusal _ refl (rw c.saturating_sub.ensures of_table)
 
 pub invariant_of-others : goal.invariant_of-others
 invariant_of-others c = record { some_queue = (window_known c.args.table c.args.queue c.args.window c.in_ok-table.ensures.refusal).0 }

@@ -1,5 +1,5 @@
 -- A rule that is broken refuses, and one that is kept hands on to the next, with what the next requires.
-use Rattle.std.proofs.Common.{◌≡◌, sym, ap, ◌∙◌, false, rules, arith}
+use Rattle.std.proofs.Common.{◌≡◌, refl, sym, ap, ◌∙◌, false, rules, arith}
 use Rattle.laws.specs.Found.{nobody}
 use Rattle.laws.proofs.First.{first_nobody}
 use Rattle.table.specs.declared.Refusal.{Refusal}
@@ -8,6 +8,7 @@ use Rattle.table.specs.Columns.{judged_tree}
 use Rattle.table.specs.Reasons.{as_refusal, outcome}
 use Rattle.table.specs.Rules.{breaks_count, breaks_header, breaks_value, breaks_task, refuse, fine, found_if, lowest_location, lowest_task, location_place, task_place, judged}
 use Rattle.table.proofs.Unbroken.{refuse_nobody}
+use Rattle.table.proofs.Reasons.{not_zero}
 use Rattle.judge.proofs.Lowest.{refused, passed, if_refused, if_kept, tree_refused, tree_kept}
 use Rattle.judge.proofs.judge.Goals as goal
 
@@ -35,13 +36,13 @@ module _ (t : Table) (counted : breaks_count t ≡ false) where
 
     module _ (e : fine ≡ refuse 4 location_place (lowest_location t breaks_value) fine) where
       value_kept : lowest_location t breaks_value ≡ nobody
-      value_kept = passed 4 location_place (lowest_location t breaks_value) fine (omega arith) e
+      value_kept = passed 4 location_place fine (lowest_location t breaks_value) (omega arith) e refl
 
       after_value : judged_tree t (from_task t) ≡ judged t
       after_value = sym (refuse_nobody 4 location_place (lowest_location t breaks_value) (judged_tree t (from_task t)) value_kept) ∙ after_header
 
       after_tree : fine ≡ judged_tree t fine → from_task t ≡ judged t
-      after_tree f = tree_kept t (from_task t) f ∙ after_value
+      after_tree f = tree_kept t fine (from_task t) f refl ∙ after_value
 
 -- ---- the goals
 
@@ -64,7 +65,7 @@ returns-in_err-judge_value-clause-refusal c =
     let e = c.in_err-judge_value.field-0.0 in
     let given : outcome c.from_residual.result ≡ as_refusal e = search rules in
     given
-    ∙ (refused 4 location_place (lowest_location t breaks_value) (judged_tree t (from_task t)) e c.in_err-judge_value.ensures.refusal
+    ∙ (refused 4 location_place (as_refusal e) (lowest_location t breaks_value) (judged_tree t (from_task t)) c.in_err-judge_value.ensures.refusal (not_zero e)
     ∙ after_header t (sym c.breaks_count.ensures ∙ c.if-breaks_count.false) (sym c.breaks_header.ensures ∙ c.if-breaks_header.false))
 
 pub judge_tree-requires-clause-values : goal.judge_tree-requires-clause-values
@@ -81,7 +82,7 @@ returns-in_err-judge_tree-clause-refusal c =
     let headed = sym c.breaks_header.ensures ∙ c.if-breaks_header.false in
     let e = c.in_err-judge_tree.field-0.0 in
     let given : outcome c.from_residual-in_err-judge_tree.result ≡ as_refusal e = search rules in
-    given ∙ (tree_refused t (from_task t) e c.in_err-judge_tree.ensures ∙ after_value t counted headed c.in_ok-judge_value.ensures.refusal)
+    given ∙ (tree_refused t (as_refusal e) (from_task t) c.in_err-judge_tree.ensures (not_zero e) ∙ after_value t counted headed c.in_ok-judge_value.ensures.refusal)
 
 pub returns-in_err-judge_task-clause-refusal : goal.returns-in_err-judge_task-clause-refusal
 returns-in_err-judge_task-clause-refusal c =

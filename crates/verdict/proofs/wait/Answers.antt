@@ -1,5 +1,5 @@
 -- `verdict::wait` meets its contract: the refusals in order, and then the wait from the filling. Assumes nothing.
-use mathlib.Core.Path.{◌≡◌, sym, ap, subst, subst₂, ◌∙◌}
+use mathlib.Core.Path.{◌≡◌, refl, sym, ap, subst, subst₂, ◌∙◌}
 use Prim.Native.Nat.{ℕ, ◌≤◌}
 use native.Mathlib.Omega.{arith}
 use Rattle.std.proofs.Common.{rules, Err}
@@ -40,8 +40,9 @@ returns-in_err-accepted c =
     let e = c.in_err-accepted.field-0.0 in
     let asked = c.in_err-accepted.ensures.refusal in
     let given : c.from_residual.result ≡ Err e = search rules in
+    let waits = wait_asked t q ticks 0 e asked in
     let answer : WaitAnswer t q ticks (ticks_answered (Err e)) =
-    record { cycle = 0; cycle_least_law = λ p. absurd (refuses e _ asked p); answer = refused_answer_law _ _ e (wait_asked t q ticks 0 e asked) } in
+    record { cycle = 0; cycle_least_law = λ p. absurd (refuses e _ asked p); answer = refused_answer_law _ _ _ (refuses e _ waits) waits refl } in
     subst (λ r. WaitAnswer t q ticks (ticks_answered r)) (sym given) answer
 
 pub returns-then-not-contains : goal.returns-then-not-contains
@@ -53,10 +54,11 @@ returns-then-not-contains c =
     let least = cycle_least (system (tree_of t)) (is q) in
     let law = subst (λ (u : Table). CycleLeast (tree_of u) (is q) (cycle_least (system (tree_of u)) (is q))) c.in_ok-accepted.ensures.kept
     (cycle_least_law (tree_of accepted.table.now) (well_formed accepted).formed (is q)) in
-    let outside : 1 ≤ ticks → ticks ≤ 65535 → ⊥ = search rules in record {
+    let outside : 1 ≤ ticks → ticks ≤ 65535 → ⊥ = search rules in
+    let refused = ap as_refusal c.whole.ensures ∙ wait_amount t q ticks least c.in_ok-accepted.ensures.refusal outside in record {
       cycle = least;
       cycle_least_law = λ p. law;
-      answer = refused_answer_law _ _ c.whole.result (ap as_refusal c.whole.ensures ∙ wait_amount t q ticks least c.in_ok-accepted.ensures.refusal outside);
+      answer = refused_answer_law _ _ _ (refuses c.whole.result _ refused) refused refl;
     }
 
 pub supply_of-supply-requires : goal.supply_of-supply-requires
@@ -70,10 +72,10 @@ returns-then-supply-eq0 c =
     let s = c.supply_of-supply.result in
     let is_table = ap (λ (u : WellFormedTable). u.table.now) c.supply_of-supply.ensures.table ∙ c.in_ok-accepted.ensures.kept in
     let (some, most) = inside (goal.at.returns-then-supply-eq0 c).Else-not-contains in
-    let e = c.whole-then-supply-eq0.result in record {
+    let refused = ap as_refusal c.whole-then-supply-eq0.ensures ∙ wait_never t q ticks s.cycle c.in_ok-accepted.ensures.refusal some most c.if-supply-eq0.true in record {
       cycle = s.cycle;
       cycle_least_law = λ p. cycle_known s t q is_table c.supply_of-supply.ensures.queue;
-      answer = refused_answer_law _ _ e (ap as_refusal c.whole-then-supply-eq0.ensures ∙ wait_never t q ticks s.cycle c.in_ok-accepted.ensures.refusal some most c.if-supply-eq0.true);
+      answer = refused_answer_law _ _ _ (refuses c.whole-then-supply-eq0.result _ refused) refused refl;
     }
 
 pub returns : goal.returns
@@ -88,5 +90,5 @@ returns c =
     let waits = subst₂ (λ u r. Wait (grants (tree_of u)) (is r) ticks c.longest.result) is_table c.supply_of-supply.ensures.queue c.longest.ensures in record {
       cycle = s.cycle;
       cycle_least_law = λ p. cycle_known s t q is_table c.supply_of-supply.ensures.queue;
-      answer = answer_says _ _ c.longest.result (wait_given t q ticks s.cycle c.in_ok-accepted.ensures.refusal some most gets) waits;
+      answer = answer_says _ _ _ (wait_given t q ticks s.cycle c.in_ok-accepted.ensures.refusal some most gets) c.longest.result refl waits;
     }

@@ -8,7 +8,7 @@ use native.Mathlib.Omega.{arith}
 use lib.ListN.{get_or}
 use Rattle.laws.proofs.Test.{le_or_lt}
 use Rattle.table.proofs.Known.{well_formed}
-use Rattle.supply.proofs.Supply.{least}
+use Rattle.supply.proofs.Supply.{least, supplied}
 use Rattle.waits.specs.Reaches.{Reaches}
 use Rattle.waits.proofs.LongestWait.{WaitOf, reaches_whole, wait_left}
 use Rattle.waits.proofs.longest.Goals as goal
@@ -54,5 +54,5 @@ returns c =
     let found : Reaches filled (2 * t.period) left c.reach-near.result =
     subst (λ p. Reaches filled (2 * p) left c.reach-near.result) is_period (reaches_whole filled (2 * period) left c.reach-near.result (omega (arith, formed.period)) c.reach-near.ensures) in
     let whole : ticks ≡ left + cycles * s.cycle = omega (arith, taken_off.0) in
-    let w = wait_left s left c.reach-near.result found taken_off.1 cycles taken_off.2 in
+    let w = wait_left t formed q filled s.cycle (supplied s) left c.reach-near.result found taken_off.1 cycles taken_off.2 in
     subst (λ p. WaitOf t q ticks (c.reach-near.result + cycles * p)) (sym is_period) (subst (λ x. WaitOf t q x (c.reach-near.result + cycles * t.period)) (sym whole) w)

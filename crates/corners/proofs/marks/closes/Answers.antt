@@ -1,12 +1,14 @@
 use mathlib.Core.Path.{refl, sym, ◌∙◌}
 use Prim.Native.Nat.{ℕ, ◌+◌, ◌<◌}
 use native.Mathlib.Omega.{arith}
-use Rattle.corners.proofs.Closing.{closing_none, closing_passes, closing_root, closing_child}
+use mathlib.Core.Bool.{false}
+use lib.ListN.{length-replicate}
+use Rattle.corners.proofs.Closing.{no_mark, closing_none, closing_passes, closing_root, closing_child}
 use Rattle.corners.proofs.marks.closes.Goals as goal
 use Rattle.corners.proofs.marks.closes.Goals.{then-not-passes+then-v-gt0, then-not-passes+else-v-gt0, else-not-passes}
 
 pub loop-v-init : goal.loop-v-init
-loop-v-init c = closing_none _ _ _ _ _
+loop-v-init c = closing_none _ _ _ _ _ _ (length-replicate 128 false) (no_mark 128)
 
 pub loop-v-preserved : goal.loop-v-preserved
 loop-v-preserved c =

@@ -1,5 +1,5 @@
 -- What the rules say of the columns they say of the table, and each rule that is kept hands on to the next, with what it requires.
-use Rattle.std.proofs.Common.{◌≡◌, sym, ap, ◌∙◌, ℕ, ◌<◌, not, rules, arith}
+use Rattle.std.proofs.Common.{◌≡◌, refl, sym, ap, ◌∙◌, ℕ, ◌<◌, not, rules, arith}
 use lib.Dec.{T}
 use Rattle.laws.specs.Found.{Found, nobody, first}
 use Rattle.laws.proofs.First.{first_nobody}
@@ -8,6 +8,7 @@ use Rattle.table.specs.declared.Table.{Table}
 use Rattle.table.specs.Reasons.{as_refusal, outcome}
 use Rattle.table.specs.Rules.{breaks_shape, breaks_gap, breaks_overlap, breaks_period, refuse, fine, lowest_location, location_place}
 use Rattle.table.proofs.Unbroken.{refuse_nobody}
+use Rattle.table.proofs.Reasons.{not_zero}
 use Rattle.guards.specs.declared.Guards.{Guards}
 use Rattle.guards.specs.Children.{gap_in, overlap_in}
 use Rattle.guards.specs.Lent.{guards_of, ReadFrom}
@@ -34,7 +35,7 @@ from_shape t = refuse 5 location_place (lowest_location t breaks_shape) (from_ga
 module _ (t : Table) (g : Guards) (read : ReadFrom t g) where
   module _ (e : fine ≡ refuse 5 location_place (lowest_location t breaks_shape) fine) where
     shape_kept : lowest_location t breaks_shape ≡ nobody
-    shape_kept = passed 5 location_place (lowest_location t breaks_shape) fine (omega arith) e
+    shape_kept = passed 5 location_place fine (lowest_location t breaks_shape) (omega arith) e refl
 
     after_shape : from_gap t ≡ from_shape t
     after_shape = sym (refuse_nobody 5 location_place (lowest_location t breaks_shape) (from_gap t) shape_kept)
@@ -44,7 +45,7 @@ module _ (t : Table) (g : Guards) (read : ReadFrom t g) where
 
   module _ (e : fine ≡ refuse 6 location_place (first (gap_in (guards_of g)) 0 g.n) fine) where
     gap_kept : first (gap_in (guards_of g)) 0 g.n ≡ nobody
-    gap_kept = passed 6 location_place (first (gap_in (guards_of g)) 0 g.n) fine (omega arith) e
+    gap_kept = passed 6 location_place fine (first (gap_in (guards_of g)) 0 g.n) (omega arith) e refl
 
     no_gap : (v : ℕ) → v < g.n → T (not (gap_in (guards_of g) v))
     no_gap v m = first_nobody (gap_in (guards_of g)) g.n v gap_kept m
@@ -54,7 +55,7 @@ module _ (t : Table) (g : Guards) (read : ReadFrom t g) where
 
   module _ (e : fine ≡ refuse 7 location_place (first (overlap_in (guards_of g)) 0 g.n) fine) where
     overlap_kept : first (overlap_in (guards_of g)) 0 g.n ≡ nobody
-    overlap_kept = passed 7 location_place (first (overlap_in (guards_of g)) 0 g.n) fine (omega arith) e
+    overlap_kept = passed 7 location_place fine (first (overlap_in (guards_of g)) 0 g.n) (omega arith) e refl
 
     after_overlap : from_period t ≡ from_overlap t
     after_overlap = sym (refuse_nobody 7 location_place (lowest_location t breaks_overlap) (from_period t) (sym (overlap_read t g read) ∙ overlap_kept))
@@ -62,14 +63,14 @@ module _ (t : Table) (g : Guards) (read : ReadFrom t g) where
 -- ---- the goals
 
 pub of-guards-requires-clause-some_value : goal.of-guards-requires-clause-some_value
-of-guards-requires-clause-some_value c = low_first c.args.table.now c.requires.values
+of-guards-requires-clause-some_value c = λ v z. low_first c.args.table.now c.requires.values v
 
 pub returns-in_err-judge_shape : goal.returns-in_err-judge_shape
 returns-in_err-judge_shape c =
     let t = c.args.table.now in
     let e = c.in_err-judge_shape.field-0.0 in
     let given : outcome c.from_residual.result ≡ as_refusal e = search rules in
-    given ∙ refused 5 location_place (lowest_location t breaks_shape) (from_gap t) e c.in_err-judge_shape.ensures
+    given ∙ refused 5 location_place (as_refusal e) (lowest_location t breaks_shape) (from_gap t) c.in_err-judge_shape.ensures (not_zero e)
 
 pub returns-in_err-judge_gap : goal.returns-in_err-judge_gap
 returns-in_err-judge_gap c =
@@ -78,7 +79,7 @@ returns-in_err-judge_gap c =
     let e = c.in_err-judge_gap.field-0.0 in
     let given : outcome c.from_residual-in_err-judge_gap.result ≡ as_refusal e = search rules in
     given
-    ∙ (refused 6 location_place (first (gap_in (guards_of g)) 0 g.n) (from_overlap t) e c.in_err-judge_gap.ensures
+    ∙ (refused 6 location_place (as_refusal e) (first (gap_in (guards_of g)) 0 g.n) (from_overlap t) c.in_err-judge_gap.ensures (not_zero e)
     ∙ (ap (λ (o : Found). refuse 6 location_place o (from_overlap t)) (gap_read t g c.of-guards.ensures)
     ∙ after_shape t g c.of-guards.ensures c.in_ok-judge_shape.ensures))
 
@@ -93,7 +94,7 @@ returns-in_err-judge_overlap c =
     let e = c.in_err-judge_overlap.field-0.0 in
     let given : outcome c.from_residual-in_err-judge_overlap.result ≡ as_refusal e = search rules in
     given
-    ∙ (refused 7 location_place (first (overlap_in (guards_of g)) 0 g.n) (from_period t) e c.in_err-judge_overlap.ensures
+    ∙ (refused 7 location_place (as_refusal e) (first (overlap_in (guards_of g)) 0 g.n) (from_period t) c.in_err-judge_overlap.ensures (not_zero e)
     ∙ (ap (λ (o : Found). refuse 7 location_place o (from_period t)) (overlap_read t g read)
     ∙ (after_gap t g read c.in_ok-judge_gap.ensures ∙ after_shape t g read c.in_ok-judge_shape.ensures)))
 

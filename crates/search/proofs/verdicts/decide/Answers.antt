@@ -5,6 +5,7 @@ use Rattle.std.proofs.Common.{rules, Some}
 use Rattle.table.specs.Columns.{entry}
 use Rattle.table.proofs.Known.{well_formed}
 use Rattle.supply.proofs.Supply.{least}
+use Rattle.search.specs.Answers.{meets_answer}
 use Rattle.search.proofs.Answers.{verdict_meets, verdict_short}
 use Rattle.search.proofs.Swept.{swept_at, demand_few, swept_first, meets_all, passed, block_small, scan_first, demand_here, demand_stays, short_here, scan_more, swept_more}
 use Rattle.search.proofs.verdicts.decide.Goals as goal
@@ -61,8 +62,8 @@ returns-then-least-demand c =
     let formed = well_formed s.table.now in
     let next : c.loop-start.next ≡ Some c.in-Some.start = search rules in
     let swept = swept_at t formed s.queue _ _ _ _ _ _ next c.advance-next.ensures.same_tasks c.loop-start.invariant in
-    verdict_short t s.queue _ _ _
-    (short_here t formed s.queue _ _ _ _ _ _ c.advance-next.ensures.advances _ _ c.loop-i.invariant c.loop-i-test.true _ swept.some c.at-least.ensures c.if-least-demand.true)
+    (verdict_short t s.queue _ _ _ _ refl
+    (short_here t formed s.queue _ _ _ _ _ _ c.advance-next.ensures.advances _ _ c.loop-i.invariant c.loop-i-test.true _ swept.some c.at-least.ensures c.if-least-demand.true)).1
 
 pub loop-i-preserved : goal.loop-i-preserved
 loop-i-preserved c =
@@ -85,5 +86,5 @@ returns c =
     let t = s.table.now.table.now in
     let formed = well_formed s.table.now in
     let past : (d : ℕ) → c.loop-start.next ≡ Some d → c.args.multiple < d = search rules in
-    verdict_meets t s.queue
-    (meets_all t formed s.queue c.args.multiple c.requires.common_multiple.0 (passed t formed s.queue _ _ _ _ _ c.loop-start.invariant past))
+    (verdict_meets t s.queue meets_answer refl
+    (meets_all t formed s.queue c.args.multiple c.requires.common_multiple.0 (passed t formed s.queue _ _ _ _ _ c.loop-start.invariant past))).1

@@ -1,9 +1,10 @@
 -- `corners::columns::Columns::fill` meets its contract: every column is the tree's. Assumes nothing.
+use native.Mathlib.Omega.{arith}
 use Rattle.corners.proofs.Making.{begins_below, ends_are, counts_are}
 use Rattle.corners.proofs.columns.Columns.fill.Goals as goal
 
 pub ends-requires : goal.ends-requires
-ends-requires c = begins_below c.args.tree.now _ c.sums.ensures
+ends-requires c = let t = c.args.tree.now in λ v l. omega (arith, begins_below t _ c.sums.ensures v l, t.lent.short)
 
 pub returns : goal.returns
 returns c = record {

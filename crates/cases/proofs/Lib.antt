@@ -1,0 +1,3 @@
+-- How std reads the data.
+pub mod Numbers
+pub mod Parts

@@ -1,0 +1,2 @@
+-- What the data says.
+pub mod Questions

@@ -5,7 +5,7 @@ use mathlib.Core.List.{List}
 use Prim.Native.Nat.{ℕ, ◌≤◌, ◌<◌}
 use native.Mathlib.Omega.{arith}
 use lib.Dec.{T, eqb, leb, leb→le, ltb, ltb→lt}
-use Rattle.laws.specs.Found.{first}
+use Rattle.laws.specs.Found.{Found, first}
 use Rattle.laws.proofs.Test.{and_left, and_right}
 use Rattle.laws.proofs.Climb.{Falls}
 use Rattle.laws.proofs.Cases.{of_false, not_not}
@@ -61,19 +61,18 @@ module _ (t : Table) where
         λ i. first (λ v. is_leaf (tree_over t.locations (p' i) zeros zeros zeros) v && not (eqb (end (tree_over 0 (p' i) (k' i) zeros zeros) v) t.period)) 0 t.locations
 
     module _ (lows highs : List ℕ) (l : lows ≡ low_column t) (h : highs ≡ high_column t) where
-      pub gap_agrees : first (gap_in (guards_over parents lows highs t.locations)) 0 t.locations ≡ lowest_location t breaks_gap
-      gap_agrees =
+      guards_are : (q : (ℕ → ℕ) → (ℕ → ℕ) → (ℕ → ℕ) → Found) → q (entry parents) (entry lows) (entry highs) ≡ q (tree_of t).parent (tree_of t).low (tree_of t).high
+      guards_are q =
           let p' = ap entry p ∙ parent_is in
           let l' = ap entry l ∙ low_is in
           let h' = ap entry h ∙ high_is in
-          λ i. first (gap_in (tree_over t.locations (p' i) zeros (l' i) (h' i))) 0 t.locations
+          λ i. q (p' i) (l' i) (h' i)
+
+      pub gap_agrees : first (gap_in (guards_over parents lows highs t.locations)) 0 t.locations ≡ lowest_location t breaks_gap
+      gap_agrees = guards_are (λ p l h. first (gap_in (tree_over t.locations p zeros l h)) 0 t.locations)
 
       pub overlap_agrees : first (overlap_in (guards_over parents lows highs t.locations)) 0 t.locations ≡ lowest_location t breaks_overlap
-      overlap_agrees =
-          let p' = ap entry p ∙ parent_is in
-          let l' = ap entry l ∙ low_is in
-          let h' = ap entry h ∙ high_is in
-          λ i. first (overlap_in (tree_over t.locations (p' i) zeros (l' i) (h' i))) 0 t.locations
+      overlap_agrees = guards_are (λ p l h. first (overlap_in (tree_over t.locations p zeros l h)) 0 t.locations)
 
       pub some_value : Ranged t → ((v : ℕ) → v < t.locations → T (not (breaks_value t v))) → SomeValue (guards_over parents lows highs t.locations)
       some_value r n u z s =
